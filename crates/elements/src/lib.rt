@@ -1,0 +1,3 @@
+pub mod clause;
+pub mod element;
+pub mod refusal;

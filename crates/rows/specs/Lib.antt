@@ -1,0 +1,3 @@
+pub mod Sifts
+pub mod Heaps
+pub mod Laws
