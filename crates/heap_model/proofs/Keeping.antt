@@ -12,9 +12,9 @@ use Rattle.std.proofs.shelf.Elements.{all-from-getD}
 use Rattle.std.specs.declared.cmp.Ordering.{Ordering}
 use Rattle.std.specs.declared.option.Option.the-variants.{Some, None}
 use Rattle.std.specs.shelf.Lists.{All}
-use Rattle.elements.specs.Orders.{exceeds}
+use Rattle.elements.specs.Orders.{exceeds, Lawful}
 use Rattle.rows.specs.Sifts.{parent, siftUp, siftToLeaf, siftDownToBottom}
-use Rattle.rows.specs.Heaps.{Lawful, InOrder, Heaped, FrontHeaped, HeapedFrom}
+use Rattle.rows.specs.Heaps.{InOrder, Heaped, FrontHeaped, HeapedFrom}
 use Rattle.rows.proofs.Comparisons.{Le}
 use Rattle.rows.proofs.Bags.{length-perm, up-perm, bottom-perm}
 use Rattle.rows.proofs.Heaping.{up-heap, bottom-heap, front-greatest}

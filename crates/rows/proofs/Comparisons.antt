@@ -5,8 +5,7 @@ use Rattle.std.specs.declared.cmp.Ordering.{Ordering}
 use Rattle.std.specs.declared.cmp.Ordering.the-variants.{Less, Equal, Greater}
 use Rattle.std.specs.Orderings.{isGt, isLt, reversed}
 use Rattle.std.proofs.shelf.Tests.{true≢false, false≢true}
-use Rattle.elements.specs.Orders.{exceeds, below}
-use Rattle.rows.specs.Heaps.{Lawful}
+use Rattle.elements.specs.Orders.{exceeds, below, Lawful}
 
 turned-gt : (o p : Ordering) → p ≡ reversed o → isGt o ≡ true → isGt p ≡ false
 turned-gt Less p e h = absurd (false≢true h)

@@ -7,7 +7,8 @@ use lib.ListN.{length, getD}
 use Rattle.std.proofs.shelf.Lists.{getD-default, getD-read}
 use Rattle.std.specs.declared.cmp.Ordering.{Ordering}
 use Rattle.rows.specs.Sifts.{Sifted, parent, rise, siftUp, siftDown, siftToLeaf, siftDownToBottom}
-use Rattle.rows.specs.Heaps.{Lawful, InOrder, Heaped, FrontHeaped, HeapedFrom}
+use Rattle.elements.specs.Orders.{Lawful}
+use Rattle.rows.specs.Heaps.{InOrder, Heaped, FrontHeaped, HeapedFrom}
 use Rattle.rows.proofs.Holes.{Edge, Ordered, Gap, Over}
 use Rattle.rows.proofs.Comparisons.{Le, le-self, le-trans}
 use Rattle.rows.proofs.Settling.{look, rises, falls, Landed, lands}

@@ -10,9 +10,8 @@ use lib.ListN.{length, getD, set, length-set}
 use lib.Seq.{getD-set-same, getD-set-other}
 use Rattle.std.proofs.shelf.Tests.{leb-true, leb-false, ltb-true, ltb-false, cond-both, cases-eq}
 use Rattle.std.specs.declared.cmp.Ordering.{Ordering}
-use Rattle.elements.specs.Orders.{exceeds, below}
+use Rattle.elements.specs.Orders.{exceeds, below, Lawful}
 use Rattle.rows.specs.Sifts.{Sifted, put, parent, rise, greaterChild, sink}
-use Rattle.rows.specs.Heaps.{Lawful}
 use Rattle.rows.proofs.Holes.{Edge, Written, Ordered, Gap, Over, Under, fills, refill, climbs, climbs-over, sinks, sinks-under}
 use Rattle.rows.proofs.Comparisons.{Le, le-self, le-trans, le-if-below, le-if-exceeds, le-unless-below}
 

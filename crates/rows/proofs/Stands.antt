@@ -1,6 +1,6 @@
 -- The laws of the sifts, gathered.
 use Rattle.std.specs.declared.cmp.Ordering.{Ordering}
-use Rattle.rows.specs.Heaps.{Lawful}
+use Rattle.elements.specs.Orders.{Lawful}
 use Rattle.rows.specs.Laws.{Rearranges, PutsInOrder}
 use Rattle.rows.proofs.Bags.{up-perm, down-perm, bottom-perm}
 use Rattle.rows.proofs.Heaping.{up-heap, down-heap, bottom-heap, front-greatest}

@@ -5,18 +5,10 @@ use mathlib.Core.List.{List}
 use Prim.Native.Nat.{ℕ, _≤_, _<_}
 use lib.ListN.{length, getD}
 use Rattle.std.specs.declared.cmp.Ordering.{Ordering}
-use Rattle.std.specs.declared.cmp.Ordering.the-variants.{Equal}
-use Rattle.std.specs.Orderings.{reversed}
 use Rattle.elements.specs.Orders.{exceeds}
 use Rattle.rows.specs.Sifts.{parent}
 
 module _ {X : Type 0} (ordering : X → X → Ordering) where
-  -- the laws of an order, as every element kind has them
-  pub record Lawful : Type 0 where
-    pub reflexive : (x : X) → ordering x x ≡ Equal
-    pub converse : (x y : X) → ordering y x ≡ reversed (ordering x y)
-    pub transitive : (x y z : X) → exceeds ordering x y ≡ false → exceeds ordering y z ≡ false → exceeds ordering x z ≡ false
-
   -- the element at k does not exceed its parent; d is read where there is none
   abbrev pub InOrder : List X → ℕ → Type 0
   InOrder row k = (d : X) → exceeds ordering (getD row k d) (getD row (parent k) d) ≡ false

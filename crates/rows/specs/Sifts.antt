@@ -19,7 +19,8 @@ abbrev pub put : {X : Type 0} → X → List X → ℕ → Sifted X
 put x row hole = record { row = set row hole x; at = hole }
 
 module _ {X : Type 0} (ordering : X → X → Ordering) where
-  -- x is out of the row, which has a hole: a parent that x exceeds moves down into it, but none above `start`
+  -- x is out of the row, which has a hole: a parent that x exceeds moves down into it, but none above `start`;
+  -- the fuel bounds the levels, and `hole` is enough
   unfoldable pub rise : ℕ → ℕ → X → List X → ℕ → Sifted X
   rise zero start x row hole = put x row hole
   rise (suc fuel) start x row hole =
@@ -34,7 +35,8 @@ module _ {X : Type 0} (ordering : X → X → Ordering) where
       let right : ℕ = 2 * p + 2 in
       cond (ltb right (length row)) (cond (exceeds ordering (getD row left d) (getD row right d)) left right) left
 
-  -- x is out of the row, which has a hole: its greater child moves up into it while `moves x child`
+  -- x is out of the row, which has a hole: its greater child moves up into it while `moves x child`;
+  -- the fuel bounds the levels, and `length row` is enough
   unfoldable pub sink : (X → X → Bool) → ℕ → X → List X → ℕ → Sifted X
   sink moves zero x row hole = put x row hole
   sink moves (suc fuel) x row hole =
