@@ -81,7 +81,7 @@ module _ {X : Type 0} (ordering : X → X → Ordering) where
   at-front P (d ∷ ds) x f e = let same : d ≡ x = cc in subst (P (d ∷ ds)) same (f d ds)
 
   pop-perm : (x : X) (h : Held X) → popAnswer h ≡ Some x → Perm (h .row) (x ∷ popped ordering h .row)
-  unfolding popped popAnswer
+  unfolding popped
   pop-perm x h e = at-front (λ row x. Perm row (x ∷ poppedRow ordering row)) (h .row) x (λ d ds. Perm·cons d (popped-perm d ds)) e
 
   module _ (lawful : Lawful ordering) where
@@ -90,7 +90,6 @@ module _ {X : Type 0} (ordering : X → X → Ordering) where
         (λ d ds h. all-from-getD (λ y. exceeds ordering y d ≡ false) (d ∷ ds) d (λ i l. front-greatest ordering lawful (d ∷ ds) h i d l)) e
 
     pop-greatest : (x : X) (h : Held X) → Heaped ordering (h .row) → popAnswer h ≡ Some x → All (λ y. exceeds ordering y x ≡ false) (h .row)
-    unfolding popAnswer
     pop-greatest x h o e = greatest x (h .row) e o
 
     pop-heap : (h : Held X) → Heaped ordering (h .row) → Heaped ordering (popped ordering h .row)

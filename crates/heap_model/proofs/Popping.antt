@@ -61,7 +61,6 @@ module _ {X : Type 0} (ordering : X → X → Ordering) (was : List X) (len n : 
       stays was len ∙ ap (λ r. leave r (heldOf was len)) (none ∙ ap (poppedRow ordering) (sym none))
 
   pub pop-none-answer : n ≡ 0 → None ≡ popAnswer (heldOf was len)
-  unfolding popAnswer
   pop-none-answer z = ap front (sym (row-at ∙ ap (λ m. take m was) z))
 
   module _ (k : ℕ) (pos : 0 < n) (kn : k ≡ n) where
@@ -87,7 +86,6 @@ module _ {X : Type 0} (ordering : X → X → Ordering) (was : List X) (len n : 
         some (d ∷ ds) r = is d ∙ taken-is ordering d (take k was) (omega (arith, fits))
 
     pub pop-answer : (x : X) → x ≡ getD (take k was) 0 x → Some x ≡ popAnswer (heldOf was len)
-    unfolding popAnswer
     pop-answer x is = shown (take k was) refl
       where
         shown : (row : List X) → take k was ≡ row → Some x ≡ front (heldOf was len .row)

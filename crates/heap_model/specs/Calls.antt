@@ -20,12 +20,18 @@ abbrev pub itemAt : {X : Type 0} → List X → ℕ → Option X
 itemAt row i = front (drop i row)
 
 module _ {X : Type 0} where
-  -- try_reserve: what does not fit is refused, by 1 where the sum passes 64 bits, otherwise by 2 with the places missing
+  -- whether n more find a place
+  abbrev pub fits : ℕ → Held X → Bool
+  fits n h = leb (length (h .row) + n) (places h)
+
+  -- the places that n more would lack
+  abbrev pub missing : ℕ → Held X → ℕ
+  missing n h = length (h .row) + n - places h
+
   unfoldable pub reserveAnswer : ℕ → Held X → Answer (Unit {0})
   reserveAnswer additional h =
-      let needed : ℕ = length (h .row) + additional in
-      cond (leb needed (places h)) (accepted tt)
-      (cond (ltb (2 ^ 64 - 1) needed) (refused (by 1)) (refused (by-with 2 (needed - places h))))
+      cond (fits additional h) (accepted tt)
+      (cond (ltb (2 ^ 64 - 1) (length (h .row) + additional)) (refused (by 1)) (refused (by-with 2 (missing additional h))))
 
   unfoldable pub full : Held X → Bool
   full h = leb (places h) (length (h .row))
@@ -33,8 +39,29 @@ module _ {X : Type 0} where
   unfoldable pub pushAnswer : Held X → Answer (Unit {0})
   pushAnswer h = cond (full h) (refused (by-with 2 1)) (accepted tt)
 
-  unfoldable pub popAnswer : Held X → Option X
+  abbrev pub popAnswer : Held X → Option X
   popAnswer h = front (h .row)
+
+  -- the front, if there is one and the keeper says yes to it
+  abbrev pub allowed : (X → Bool) → Option X → Option X
+  allowed says None = None
+  allowed says (Some x) = cond (says x) (Some x) None
+
+  abbrev pub popIfAnswer : (X → Bool) → Held X → Option X
+  popIfAnswer says h = allowed says (front (h .row))
+
+  abbrev pub cleared : Held X → Held X
+  cleared h = leave [] h
+
+  unfoldable pub drainAnswer : ℕ → Held X → Answer ℕ
+  drainAnswer room h = cond (leb (length (h .row)) room) (accepted (length (h .row))) (refused (by 5))
+
+  unfoldable pub drained : ℕ → Held X → Held X
+  drained room h = cond (leb (length (h .row)) room) (cleared h) h
+
+  -- the lent list after a drain of this row
+  unfoldable pub drainedTo : List X → List X → List X
+  drainedTo row list = cond (leb (length row) (length list)) (row ++ drop (length row) list) list
 
 module _ {X : Type 0} (ordering : X → X → Ordering) where
   unfoldable pub pushedRow : X → List X → List X
@@ -53,3 +80,10 @@ module _ {X : Type 0} (ordering : X → X → Ordering) where
 
   unfoldable pub popped : Held X → Held X
   popped h = leave (poppedRow (h .row)) h
+
+  abbrev pub poppedFor : Option X → Held X → Held X
+  poppedFor None h = h
+  poppedFor (Some x) h = popped h
+
+  abbrev pub poppedIf : (X → Bool) → Held X → Held X
+  poppedIf says h = poppedFor (popIfAnswer says h) h

@@ -15,6 +15,8 @@ pub enum TryReserveErrorKind {
 #[derive(Clone, Copy)]
 pub enum HeapFault {
     Row(TryReserveErrorKind),
+    NotEmpty,
+    ShortList,
 }
 
 pub impl From<TryReserveErrorKind> for HeapFault as HeapFaultFromRow {
@@ -48,6 +50,14 @@ pub impl Fault for HeapFault as HeapFaultFault {
     fn refusal(&self) -> Refusal {
         match self {
             HeapFault::Row(fault) => fault.refusal(),
+            HeapFault::NotEmpty => Refusal {
+                number: 3,
+                carries: None,
+            },
+            HeapFault::ShortList => Refusal {
+                number: 5,
+                carries: None,
+            },
         }
     }
 }

@@ -21,9 +21,9 @@ module _ {X : Type 0} (ordering : X → X → Ordering) where
   none-of (d ∷ ds) e = let z : _≡_ {A = ℕ} 0 1 = cc in absurd (omega arith)
 
   pub one-fewer : (h h′ : Held X) (x : X) → h′ ≡ popped ordering h → Some x ≡ popAnswer h → length (h .row) ≡ length (h′ .row) + 1
-  unfolding popped popAnswer
+  unfolding popped
   one-fewer h h′ x p e = one-of (h .row) x e ∙ ap (λ (k : Held X). length (k .row) + 1) (sym p)
 
   pub none-left : (h h′ : Held X) → h′ ≡ popped ordering h → None ≡ popAnswer h → (length (h .row) ≡ 0) × (h′ .row ≡ [])
-  unfolding popped popAnswer
+  unfolding popped
   none-left h h′ p e = let none = none-of (h .row) e in (none .0, ap (λ (k : Held X). k .row) p ∙ none .1)

@@ -1,8 +1,10 @@
 pub mod Rises
 pub mod Sinks
+pub mod Turns
 pub mod Comparisons
 pub mod Holes
 pub mod Bags
 pub mod Settling
 pub mod Heaping
+pub mod Rebuilding
 pub mod Stands

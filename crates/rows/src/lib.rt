@@ -1,2 +1,4 @@
+pub mod check;
 pub mod laws;
+pub mod rebuild;
 pub mod sift;

@@ -1,0 +1,5 @@
+pub mod fill;
+pub mod lent;
+pub mod repeat;
+pub mod supply;
+pub mod take;
