@@ -4,6 +4,10 @@ ghost use Rattle.heap_model.proofs.Adopting.{Adopts};
 ghost use Rattle.heap_model.proofs.Appending.{Appends};
 ghost use Rattle.heap_model.proofs.Draining.{Drains};
 ghost use Rattle.heap_model.proofs.Extending.{Extends};
+ghost use Rattle.heap_model.proofs.Holding.{Reads};
+ghost use Rattle.heap_model.proofs.Popping.{Pops};
+ghost use Rattle.heap_model.proofs.Pushing.{Pushes};
+ghost use Rattle.heap_model.proofs.Reserving.{Reserves};
 ghost use Rattle.heap_model.proofs.Retaining.{Retains};
 use crate::BinaryHeap;
 use elements::element::Element;
@@ -11,6 +15,22 @@ use keepers::keeper::Keeper;
 use supplies::supply::Supply;
 
 impl<'a, T: Element> BinaryHeap<'a, T> {
+    pub(crate) fn read_laws(&self)
+        ensures { λ _. ⌜ Reads (now (now (self .entry) .memory)) (now (self .entry) .len) ⌝ }
+    {}
+
+    pub(crate) fn reserve_laws(&self, additional: usize)
+        ensures { λ _. ⌜ Reserves (now (now (self .entry) .memory)) (now (self .entry) .len) additional ⌝ }
+    {}
+
+    pub(crate) fn push_laws(&self, x: T)
+        ensures { λ _. ⌜ Pushes ordering (now (now (self .entry) .memory)) (now (self .entry) .len) x ⌝ }
+    {}
+
+    pub(crate) fn pop_laws(&self)
+        ensures { λ _. ⌜ Pops ordering (now (now (self .entry) .memory)) (now (self .entry) .len) ⌝ }
+    {}
+
     pub(crate) fn drain_laws(&self, room: usize)
         ensures { λ _. ⌜ Drains (now (now (self .entry) .memory)) (now (self .entry) .len) room ⌝ }
     {}

@@ -8,8 +8,7 @@ use Rattle.std.proofs.shelf.Tests.{le-leb, lt-leb, cond-true, cond-false}
 use Rattle.elements.specs.Refusals.{Answer, by}
 use Rattle.elements.specs.Refusals.Answer.{accepted, refused}
 use Rattle.heap_model.specs.Held.{heldOf}
-use Rattle.heap_model.specs.Calls.{drained, drainedTo, drainAnswer}
-use Rattle.heap_model.proofs.Holding.{empty}
+use Rattle.heap_model.specs.Calls.{cleared, drained, drainedTo, drainAnswer}
 
 module _ {X : Type 0} (was : List X) (len n room : ℕ) (e : n ≡ length (heldOf was len .row)) where
   abbrev rows : ℕ
@@ -32,9 +31,9 @@ module _ {X : Type 0} (was : List X) (len n room : ℕ) (e : n ≡ length (heldO
   short-list list l = sym (cond-false _ _ _ (lt-leb rows (length list) (omega (arith, long))))
 
   module _ (l : n ≤ room) where
-    pub drain-heap : heldOf was 0 ≡ drained room (heldOf was len)
+    pub drain-heap : cleared (heldOf was len) ≡ drained room (heldOf was len)
     unfolding drained
-    drain-heap = empty was ∙ sym (cond-true _ _ _ (le-leb rows room (omega (arith, long))))
+    drain-heap = sym (cond-true _ _ _ (le-leb rows room (omega (arith, long))))
 
     pub drain-answer : accepted n ≡ drainAnswer room (heldOf was len)
     unfolding drainAnswer
@@ -50,7 +49,7 @@ pub record Drains {X : Type 0} (was : List X) (len room : ℕ) : Type 0 where
   pub short-heap : room < length (heldOf was len .row) → heldOf was len ≡ drained room (heldOf was len)
   pub short-answer : room < length (heldOf was len .row) → refused (by 5) ≡ drainAnswer room (heldOf was len)
   pub short-list : (list : List X) → length list ≡ room → room < length (heldOf was len .row) → list ≡ drainedTo (heldOf was len .row) list
-  pub heap : length (heldOf was len .row) ≤ room → heldOf was 0 ≡ drained room (heldOf was len)
+  pub heap : length (heldOf was len .row) ≤ room → cleared (heldOf was len) ≡ drained room (heldOf was len)
   pub answer : length (heldOf was len .row) ≤ room → accepted (length (heldOf was len .row)) ≡ drainAnswer room (heldOf was len)
   pub list : (list ys : List X) (k : ℕ) → length list ≡ room → ys ≡ heldOf was len .row → length (heldOf was len .row) ≤ room → k ≡ length (heldOf was len .row) → ys ++ drop k list ≡ drainedTo (heldOf was len .row) list
 

@@ -70,3 +70,12 @@ module _ {X : Type 0} where
 
   pub no-item : (was : List X) (len i n : ℕ) → n ≡ rowLength (length was) len → n ≤ i → itemAt (heldOf was len .row) i ≡ None
   no-item was len i n e l = ap front (drop-all i (heldOf was len .row) (omega (arith, row-long was len)))
+
+-- of one heap: what its row's length is, and what stands in it
+pub record Reads {X : Type 0} (was : List X) (len : ℕ) : Type 0 where
+  pub long : length (heldOf was len .row) ≡ rowLength (length was) len
+  pub item : (i : ℕ) (x : X) → i < rowLength (length was) len → x ≡ getD was i x → itemAt (heldOf was len .row) i ≡ Some x
+  pub no-item : (i : ℕ) → rowLength (length was) len ≤ i → itemAt (heldOf was len .row) i ≡ None
+
+pub reads : {X : Type 0} (was : List X) (len : ℕ) → Reads was len
+reads was len = record { long = row-long was len; item = λ i x l. item was len i _ x refl l; no-item = λ i. no-item was len i _ refl }

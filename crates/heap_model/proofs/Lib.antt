@@ -10,4 +10,3 @@ pub mod Appending
 pub mod Extending
 pub mod Retaining
 pub mod Keeping
-pub mod Holds

@@ -54,13 +54,13 @@ module _ {X : Type 0} (ordering : X → X → Ordering) (was : List X) (len n : 
   row-at : heldOf was len .row ≡ take n was
   row-at = ap (λ m. take m was) (sym e)
 
-  pub pop-none : n ≡ 0 → heldOf was len ≡ popped ordering (heldOf was len)
+  pop-none : n ≡ 0 → heldOf was len ≡ popped ordering (heldOf was len)
   unfolding popped poppedRow
   pop-none z =
       let none : heldOf was len .row ≡ [] = row-at ∙ ap (λ m. take m was) z in
       stays was len ∙ ap (λ r. leave r (heldOf was len)) (none ∙ ap (poppedRow ordering) (sym none))
 
-  pub pop-none-answer : n ≡ 0 → None ≡ popAnswer (heldOf was len)
+  pop-none-answer : n ≡ 0 → None ≡ popAnswer (heldOf was len)
   pop-none-answer z = ap front (sym (row-at ∙ ap (λ m. take m was) z))
 
   module _ (k : ℕ) (pos : 0 < n) (kn : k ≡ n) where
@@ -71,7 +71,7 @@ module _ {X : Type 0} (ordering : X → X → Ordering) (was : List X) (len n : 
     fits = length-take-le k was (omega (arith, row-fits (length was) len))
 
     -- the front was taken out of the first k places, and they then hold ys
-    pub pop-leaves : (ys : List X) → ((d : X) → ys ≡ frontTaken ordering d (take k was)) → heldOf (ys ++ drop k was) (n - 1) ≡ popped ordering (heldOf was len)
+    pop-leaves : (ys : List X) → ((d : X) → ys ≡ frontTaken ordering d (take k was)) → heldOf (ys ++ drop k was) (n - 1) ≡ popped ordering (heldOf was len)
     unfolding popped
     pop-leaves ys is =
         let full = fits in
@@ -85,9 +85,24 @@ module _ {X : Type 0} (ordering : X → X → Ordering) (was : List X) (len n : 
         some [] r = absurd (omega (arith, fits, ap length r))
         some (d ∷ ds) r = is d ∙ taken-is ordering d (take k was) (omega (arith, fits))
 
-    pub pop-answer : (x : X) → x ≡ getD (take k was) 0 x → Some x ≡ popAnswer (heldOf was len)
+    pop-answer : (x : X) → x ≡ getD (take k was) 0 x → Some x ≡ popAnswer (heldOf was len)
     pop-answer x is = shown (take k was) refl
       where
         shown : (row : List X) → take k was ≡ row → Some x ≡ front (heldOf was len .row)
         shown [] r = absurd (omega (arith, fits, ap length r))
         shown (d ∷ ds) r = ap Some (is ∙ ap (λ t. getD t 0 x) r) ∙ ap front (sym r ∙ row-here)
+
+-- of one heap
+pub record Pops {X : Type 0} (ordering : X → X → Ordering) (was : List X) (len : ℕ) : Type 0 where
+  pub none : length (heldOf was len .row) ≡ 0 → heldOf was len ≡ popped ordering (heldOf was len)
+  pub none-answer : length (heldOf was len .row) ≡ 0 → None ≡ popAnswer (heldOf was len)
+  pub leaves-it : (n k : ℕ) (ys : List X) → n ≡ length (heldOf was len .row) → ((d : X) → ys ≡ frontTaken ordering d (take k was)) → 0 < n → k ≡ n → heldOf (ys ++ drop k was) (n - 1) ≡ popped ordering (heldOf was len)
+  pub answer : (k : ℕ) (x : X) → x ≡ getD (take k was) 0 x → k ≡ length (heldOf was len .row) → 0 < k → Some x ≡ popAnswer (heldOf was len)
+
+pub pops : {X : Type 0} (ordering : X → X → Ordering) (was : List X) (len : ℕ) → Pops ordering was len
+pops ordering was len = record {
+  none = λ z. pop-none ordering was len (rowLength (length was) len) refl (omega (arith, row-long was len));
+  none-answer = λ z. pop-none-answer ordering was len (rowLength (length was) len) refl (omega (arith, row-long was len));
+  leaves-it = λ n k ys e is l kn. pop-leaves ordering was len n (e ∙ row-long was len) k l kn ys is;
+  answer = λ k x is e l. pop-answer ordering was len k (e ∙ row-long was len) k l refl x is;
+}

@@ -2,7 +2,7 @@ use Prim.Native.Nat.{_-_, _+_}
 use native.Mathlib.Omega.{arith}
 use lib.ListN.{length}
 use Rattle.heap_model.proofs.Joining.{joins-front, joins-behind}
-use Rattle.binary_heap.proofs.join.Needs as need
+use Rattle.binary_heap.proofs.growth.join.Needs as need
 
 pub returns-then-ours-theirs : need.returns-then-ours-theirs
 returns-then-ours-theirs g c =

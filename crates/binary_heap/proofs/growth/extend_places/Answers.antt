@@ -5,7 +5,7 @@ use native.Mathlib.Omega.{arith}
 use lib.ListN.{length, take, drop}
 use Rattle.heap_model.specs.Growth.{extendedRow}
 use Rattle.heap_model.proofs.Extending.{count-is, rest-is, places-are}
-use Rattle.binary_heap.proofs.extend_places.Needs as need
+use Rattle.binary_heap.proofs.growth.extend_places.Needs as need
 
 pub returns : need.returns
 returns g c =

@@ -1,5 +1,5 @@
 use Rattle.rows.proofs.Stands.{rearranges, puts-in-order}
-use Rattle.rows.proofs.laws.sifts_are_lawful.Needs as need
+use Rattle.rows.proofs.laws.rows_are_lawful.Needs as need
 
 pub returns : need.returns
 returns g c =
