@@ -1,5 +1,5 @@
 // The heap's calls at their limits: no memory, one place, full, more memory than places, equal
-// ranks, nested kinds.
+// ranks, nested kinds, refusals that change nothing.
 #[cfg(test)]
 mod tests {
     use binary_heap::BinaryHeap;
@@ -11,8 +11,16 @@ mod tests {
     use elements::refusal::Fault;
     use heap_model::fault::HeapFaultFault;
     use heap_model::fault::TryReserveErrorKindFault;
+    use keepers::ration::Ration;
+    use keepers::ration::RationKeeper;
+    use rows::check::first_out_of_order;
     use std::cmp::Reverse;
     use std::test::*;
+    use supplies::lent::Lent;
+    use supplies::lent::LentSupply;
+    use supplies::repeat::Repeat;
+    use supplies::repeat::RepeatSupply;
+    use supplies::supply::Supply;
 
     #[test]
     fn no_memory() -> Result<(), Fail> {
@@ -117,5 +125,67 @@ mod tests {
         check_eq(heap.pop().ok_or("empty")?.1.0, 3)?;
         check_eq(heap.pop().ok_or("empty")?.1.0, 4)?;
         check_eq(heap.pop().ok_or("empty")?.1.0, 1)
+    }
+
+    #[test]
+    fn adopt_reads_what_lies_behind_the_row() -> Result<(), Fail> {
+        let mut places = [0u64; 3];
+        let mut heap = BinaryHeap::new(&mut places);
+        check(heap.push(7).is_ok() && heap.push(9).is_ok())?;
+        let Err(fault) = heap.adopt(4) else {
+            return Err(Fail::new("adopted over a row"));
+        };
+        check_eq(fault.refusal().number, 3)?;
+        check_eq(heap.pop(), Some(9))?;
+        heap.clear();
+        check(heap.adopt(4).is_err())?;
+        check(heap.adopt(2).is_ok())?;
+        check_eq(heap.get(1).copied(), Some(7)).note("the place that 7 left")
+    }
+
+    #[test]
+    fn an_extend_cut_short_leaves_the_rest() -> Result<(), Fail> {
+        let mut places = [0u64; 2];
+        let mut heap = BinaryHeap::new(&mut places);
+        let mut supply = Lent::new(&[1u64, 2, 3]);
+        let Err(fault) = heap.extend(&mut supply) else {
+            return Err(Fail::new("three elements in two places"));
+        };
+        check_eq(fault.refusal().carries, Some(2))?;
+        check_eq(supply.next(), Some(3))?;
+        check(places == [2, 1])
+    }
+
+    #[test]
+    fn a_refused_append_changes_neither_heap() -> Result<(), Fail> {
+        let mut places = [0u64; 2];
+        let mut others = [0u64; 2];
+        let mut heap = BinaryHeap::new(&mut places);
+        let mut other = BinaryHeap::new(&mut others);
+        check(heap.extend(&mut Repeat::new(5u64, 2)).is_ok() && other.push(6).is_ok())?;
+        check(heap.append(&mut other).is_err())?;
+        check_eq(other.len(), 1)?;
+        check(places == [5, 5] && others == [6, 0])
+    }
+
+    #[test]
+    fn a_short_list_is_not_written() -> Result<(), Fail> {
+        let mut places = [0u64; 3];
+        let mut heap = BinaryHeap::new(&mut places);
+        check(heap.extend(&mut Lent::new(&[4u64, 6, 5])).is_ok())?;
+        let mut list = [1u64; 2];
+        check(heap.drain(&mut list).is_err())?;
+        check(list == [1, 1])?;
+        heap.retain(&mut Ration::new(2));
+        check(heap.drain(&mut list).is_ok())?;
+        check(heap.is_empty())?;
+        check(list == [6, 4])
+    }
+
+    #[test]
+    fn the_checker_names_the_first_position() -> Result<(), Fail> {
+        check_eq(first_out_of_order(&[7u64]), None)?;
+        check_eq(first_out_of_order(&[7u64, 7, 5, 7]), None)?;
+        check_eq(first_out_of_order(&[7u64, 5, 7, 6, 6]), Some(3))
     }
 }

@@ -1,4 +1,5 @@
--- A clause that arrives is made, and then pushed.
+-- The clauses of a morning: one that arrives is made, and then pushed.
+use mathlib.Core.List.{List, [], _∷_}
 use Prim.Native.Nat.{ℕ}
 use Rattle.std.specs.declared.option.Option.{Option}
 use Rattle.std.specs.declared.option.Option.the-variants.{Some, None}
@@ -28,3 +29,10 @@ arrived (refused r) h = h
 abbrev pub numberOf : Option Clause → Option ℕ
 numberOf None = None
 numberOf (Some clause) = Some (clause .number)
+
+abbrev pub standingClauses : List Clause
+standingClauses =
+    record { rank = 4; number = 1; discount = 40 }
+    ∷ record { rank = 1; number = 2; discount = 10 }
+    ∷ record { rank = 2; number = 3; discount = 20 }
+    ∷ []

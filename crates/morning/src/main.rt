@@ -1,15 +1,16 @@
-// A morning on the dock: clauses arrive, the one in front is shown as it changes, and at the end
-// all are handed out.
+// A morning on the dock: the standing clauses are taken in, others arrive, the one in front is shown
+// as it changes, those above a rank are withdrawn, and at the end all are handed out.
 ghost use mathlib.Core.Path.{_≡_};
 ghost use mathlib.Core.List.{[]};
 ghost use lib.ListN.{length};
 ghost use denote.Ref.{now};
 ghost use Rattle.std.specs.Results.{Cases as ByOk};
-ghost use Rattle.elements.specs.Clauses.{made};
+ghost use Rattle.elements.specs.Clauses.{made, refuses-clause};
 ghost use Rattle.elements.specs.Refusals.{told};
+ghost use Rattle.elements.specs.Refusals.Answer.{accepted};
 ghost use Rattle.heap_model.specs.Calls.{front};
 ghost use Rattle.binary_heap.specs.Heaps.{held};
-ghost use Rattle.morning.specs.Arrivals.{refuses-arrival, arrivalAnswer, arrived, numberOf};
+ghost use Rattle.morning.specs.Arrivals.{refuses-arrival, arrivalAnswer, arrived, numberOf, standingClauses};
 ghost use Rattle.morning.specs.declared.ArrivalFault.the-variants.{Clause as OfClause, Heap as OfHeap};
 use binary_heap::BinaryHeap;
 use elements::clause::Clause;
@@ -20,8 +21,15 @@ use elements::refusal::Fault;
 use elements::refusal::Refusal;
 use heap_model::fault::HeapFault;
 use heap_model::fault::HeapFaultFault;
+use keepers::ceiling::Ceiling;
+use keepers::ceiling::CeilingKeeper;
 use std::fmt;
 use std::io;
+use supplies::lent::Lent;
+use supplies::lent::LentSupply;
+
+// Clauses of a higher rank are withdrawn at noon.
+const NOON_RANK: u16 = 7;
 
 // rank, number, discount in per mille
 const ARRIVALS: [(u16, u32, u16); 7] = [
@@ -30,8 +38,8 @@ const ARRIVALS: [(u16, u32, u16); 7] = [
     (5, 103, 80),
     (7, 104, 200),
     (9, 105, 1_250),
-    (2, 106, 30),
-    (8, 107, 150),
+    (8, 106, 150),
+    (6, 107, 30),
 ];
 
 // Why an arriving clause was turned away.
@@ -100,6 +108,23 @@ fn front_number(heap: &BinaryHeap<'_, Clause>) -> Option<u32>
     }
 }
 
+// Shows the front if it is another than the one shown before; answers which it is.
+fn show_front(
+    rt: &LibcRuntime,
+    heap: &BinaryHeap<'_, Clause>,
+    shown: Option<u32>,
+) -> io::Result<Option<u32>>
+    ensures { λ r. ⌜ ByOk r (λ number. number ≡ numberOf (front (held (now (heap .entry)) .row))) (λ _. Unit {0}) ⌝ }
+{
+    let front = front_number(heap);
+    if let Some(number) = front
+        && front != shown
+    {
+        println!(rt, "  in front now: clause {number}")?;
+    }
+    Ok(front)
+}
+
 // Hands all clauses out, the front first; answers how many there were.
 fn hand_out(rt: &LibcRuntime, heap: &mut BinaryHeap<'_, Clause>) -> io::Result<usize>
     ensures { λ r. ⌜ ByOk r (λ count. (count ≡ length (held (now (heap .entry)) .row)) × (held (now (heap .exit)) .row ≡ [])) (λ _. Unit {0}) ⌝ }
@@ -118,27 +143,42 @@ fn hand_out(rt: &LibcRuntime, heap: &mut BinaryHeap<'_, Clause>) -> io::Result<u
     Ok(count)
 }
 
+// The clauses that hold on every day.
+fn standing() -> Result<[Clause; 3], ClauseFault>
+    ensures { λ r. ⌜ told refuses-clause r ≡ accepted standingClauses ⌝ }
+{
+    Ok([
+        Clause::new(4, 1, 40)?,
+        Clause::new(1, 2, 10)?,
+        Clause::new(2, 3, 20)?,
+    ])
+}
+
 fn main(rt: LibcRuntime) -> io::Result<()> {
-    let Ok(blank) = Clause::new(0, 0, 0) else {
-        return Ok(());
+    let (Ok(standing), Ok(noon)) = (standing(), Clause::new(NOON_RANK, 0, 0)) else {
+        return rt.println("the day has no clauses");
     };
-    let mut places = [blank; 5];
+    let mut places = [noon; 8];
     let mut heap = BinaryHeap::new(&mut places);
-    let mut shown = None;
+    match heap.extend(&mut Lent::new(&standing)) {
+        Ok(count) => println!(rt, "{count} standing clauses taken in")?,
+        Err(fault) => {
+            let fault = ArrivalFault::Heap(fault);
+            println!(rt, "standing clauses: {fault}")?;
+        }
+    }
+    let mut shown = show_front(&rt, &heap, None)?;
     for (rank, number, discount) in ARRIVALS {
         match arrive(&mut heap, rank, number, discount) {
             Ok(()) => println!(rt, "clause {number} of rank {rank}: accepted")?,
             Err(fault) => println!(rt, "clause {number} of rank {rank}: {fault}")?,
         }
-        let front = front_number(&heap);
-        if let Some(number) = front
-            && front != shown
-        {
-            println!(rt, "  in front now: clause {number}")?;
-        }
-        shown = front;
+        shown = show_front(&rt, &heap, shown)?;
     }
+    heap.retain(&mut Ceiling::new(noon));
+    let left = heap.len();
+    println!(rt, "noon: {left} clauses left, of rank {NOON_RANK} or less")?;
+    show_front(&rt, &heap, shown)?;
     let count = hand_out(&rt, &mut heap)?;
-    let arrived = ARRIVALS.len();
-    println!(rt, "{count} of {arrived} clauses handed out")
+    println!(rt, "{count} clauses handed out")
 }
