@@ -1,17 +1,17 @@
 -- What an adopt leaves and answers.
 use mathlib.Core.Path.{_≡_, refl, sym, ap, _∙_}
 use mathlib.Core.List.{List, _++_}
-use Prim.Native.Nat.{ℕ, _+_, _-_, _^_, _≤_, _<_}
+use Prim.Native.Nat.{ℕ, _-_, _^_, _≤_, _<_}
 use native.Mathlib.Omega.{arith}
 use lib.ListN.{length, take, drop}
 use Rattle.std.proofs.shelf.Lists.{length-take-le}
 use Rattle.std.proofs.shelf.Tests.{le-leb, lt-leb, lt-ltb, le-ltb, cond-true, cond-false, cases-lt}
 use mathlib.Core.Logic.{⊎-elim}
 use Rattle.std.specs.declared.cmp.Ordering.{Ordering}
-use Rattle.elements.specs.Refusals.{Answer, by, by-with}
+use Rattle.elements.specs.Refusals.{by, by-with}
 use Rattle.elements.specs.Refusals.Answer.{accepted, refused}
 use Rattle.rows.specs.Rebuilds.{rebuilt}
-use Rattle.heap_model.specs.Held.{Held, placesOf, heldOf, leave}
+use Rattle.heap_model.specs.Held.{placesOf, heldOf}
 use Rattle.heap_model.specs.Calls.{reserveAnswer}
 use Rattle.heap_model.specs.Growth.{adopted, adoptAnswer}
 use Rattle.heap_model.proofs.Holding.{places-fit, row-is, row-long, leaves-all}

@@ -9,10 +9,10 @@ use Rattle.std.proofs.shelf.Lists.{length-take-le, take-take}
 use Rattle.std.proofs.shelf.Tests.{le-leb, lt-leb, cond-true, cond-false, cases-lt}
 use mathlib.Core.Logic.{⊎-elim}
 use Rattle.std.specs.declared.cmp.Ordering.{Ordering}
-use Rattle.elements.specs.Refusals.{Answer, by-with}
-use Rattle.elements.specs.Refusals.Answer.{accepted, refused}
-use Rattle.heap_model.specs.Held.{Held, placesOf, rowLength, heldOf, leave}
-use Rattle.heap_model.specs.Calls.{fits, missing, reserveAnswer, cleared}
+use Rattle.elements.specs.Refusals.{by-with}
+use Rattle.elements.specs.Refusals.Answer.{refused}
+use Rattle.heap_model.specs.Held.{Held, placesOf, heldOf}
+use Rattle.heap_model.specs.Calls.{fits, reserveAnswer}
 use Rattle.rows.specs.Rebuilds.{tailRebuilt}
 use Rattle.heap_model.specs.Growth.{joined, second, appendedRow, appended, appendedFrom, appendAnswer}
 use Rattle.heap_model.proofs.Holding.{places-fit, places-most, row-in-places, row-is, row-long, leaves-all, empty}

@@ -5,7 +5,7 @@ use Prim.Native.Nat.{ℕ, _≤_, _<_}
 use native.Mathlib.Omega.{arith}
 use lib.ListN.{length, drop}
 use Rattle.std.proofs.shelf.Tests.{le-leb, lt-leb, cond-true, cond-false}
-use Rattle.elements.specs.Refusals.{Answer, by}
+use Rattle.elements.specs.Refusals.{by}
 use Rattle.elements.specs.Refusals.Answer.{accepted, refused}
 use Rattle.heap_model.specs.Held.{heldOf}
 use Rattle.heap_model.specs.Calls.{cleared, drained, drainedTo, drainAnswer}

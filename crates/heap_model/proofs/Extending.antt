@@ -2,7 +2,7 @@
 use mathlib.Core.Path.{_≡_, refl, sym, ap, _∙_}
 use mathlib.Core.Bool.{true, false}
 use mathlib.Core.List.{List, _++_, append-assoc}
-use Prim.Native.Nat.{ℕ, _+_, _-_, _≤_, _<_, min}
+use Prim.Native.Nat.{ℕ, _+_, _-_, _≤_, min}
 use native.Mathlib.Omega.{arith}
 use lib.Dec.{ltb}
 use lib.ListN.{length, take, drop, length-append, length-take, length-drop, take-append-drop}
@@ -10,14 +10,14 @@ use borrow.Rule.Slice.PartMut.{putMid}
 use Rattle.std.proofs.shelf.Lists.{length-take-le, take-take, take-at, drop-at, drop-drop, drop-append-le}
 use Rattle.std.proofs.shelf.Tests.{lt-ltb, le-ltb, ltb-true, ltb-false, cond-true, cond-false}
 use Rattle.std.specs.declared.cmp.Ordering.{Ordering}
-use Rattle.elements.specs.Refusals.{Answer, by-with}
+use Rattle.elements.specs.Refusals.{by-with}
 use Rattle.elements.specs.Refusals.Answer.{accepted, refused}
 use Rattle.rows.specs.Rebuilds.{tailRebuilt}
 use Rattle.rows.proofs.Bags.{length-perm}
 use Rattle.rows.proofs.Rebuilding.{tail-perm}
 use Rattle.supplies.specs.Fills.{filled}
 use Rattle.supplies.proofs.Filling.{filled-leaves}
-use Rattle.heap_model.specs.Held.{Held, placesOf, rowLength, heldOf, leave}
+use Rattle.heap_model.specs.Held.{Held, placesOf, heldOf, leave}
 use Rattle.heap_model.specs.Growth.{taken, extendAnswer, extendedRow, extended}
 use Rattle.heap_model.proofs.Holding.{places-fit, row-in-places, row-is, row-long, leaves}
 

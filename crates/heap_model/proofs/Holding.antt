@@ -1,7 +1,7 @@
 -- What a heap holds when the front of its memory was written.
 use mathlib.Core.Path.{_≡_, refl, sym, ap, _∙_}
 use mathlib.Core.List.{List, [], _∷_, _++_, append-assoc, append-nil}
-use Prim.Native.Nat.{ℕ, zero, suc, _+_, _-_, _≤_, _<_}
+use Prim.Native.Nat.{ℕ, zero, suc, _+_, _≤_, _<_}
 use native.Mathlib.Omega.{arith}
 use lib.ListN.{length, getD, take, drop, take-append-drop, length-append, length-drop}
 use Rattle.std.proofs.shelf.Lists.{length-take-le, drop-append-le, drop-all, take-at}
@@ -35,7 +35,7 @@ module _ {X : Type 0} (was : List X) (len : ℕ) where
   stays = both refl (sym (ap (λ m. take (rowLength (length was) len) was ++ drop m was) row-long ∙ take-append-drop _ was))
 
   -- the memory ends with another row at its front
-  shape : (items row : List X) (count : ℕ) → items ≡ row ++ drop (length row) was → length row ≤ length was → rowLength (length was) count ≡ length row → heldOf items count ≡ leave row (heldOf was len)
+  pub shape : (items row : List X) (count : ℕ) → items ≡ row ++ drop (length row) was → length row ≤ length was → rowLength (length was) count ≡ length row → heldOf items count ≡ leave row (heldOf was len)
   shape items row count is le e =
       let size : length items ≡ length was = ap length is ∙ length-append row _ ∙ ap (λ n. length row + n) (length-drop (length row) was) ∙ omega arith in
       both (ap (λ s. take (rowLength s count) items) size ∙ ap (λ n. take n items) e ∙ ap (take (length row)) is ∙ take-at row _ (length row) refl) is

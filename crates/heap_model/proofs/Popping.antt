@@ -2,18 +2,18 @@
 use mathlib.Core.Path.{_≡_, refl, sym, ap, _∙_}
 use mathlib.Core.Bool.{cond}
 use mathlib.Core.List.{List, [], _∷_, _++_}
-use Prim.Native.Nat.{ℕ, zero, suc, _-_, _≤_, _<_}
+use Prim.Native.Nat.{ℕ, suc, _-_, _<_}
 use native.Mathlib.Omega.{arith}
 use lib.Dec.{ltb}
 use lib.ListN.{length, getD, take, drop, set, length-set}
-use lib.Seq.{drop-set-lt, take-set-lt}
-use Rattle.std.proofs.shelf.Tests.{lt-ltb, le-ltb, cond-true, cond-false}
+use lib.Seq.{drop-set-lt}
+use Rattle.std.proofs.shelf.Tests.{lt-ltb, cond-true}
 use Rattle.std.proofs.shelf.Lists.{length-take-le, getD-default}
 use Rattle.std.specs.declared.cmp.Ordering.{Ordering}
 use Rattle.std.specs.declared.option.Option.the-variants.{Some, None}
 use Rattle.rows.specs.Sifts.{siftUp, siftToLeaf, siftDownToBottom}
 use Rattle.rows.proofs.Bags.{length-perm, bottom-perm}
-use Rattle.heap_model.specs.Held.{Held, heldOf, rowLength, placesOf, leave}
+use Rattle.heap_model.specs.Held.{heldOf, rowLength, leave}
 use Rattle.heap_model.specs.Calls.{front, poppedRow, popped, lastInFront, popAnswer}
 use Rattle.heap_model.proofs.Holding.{row-long, stays, leaves, row-is, row-fits, row-in-places}
 

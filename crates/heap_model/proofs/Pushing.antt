@@ -10,10 +10,10 @@ use Rattle.std.proofs.shelf.Tests.{le-leb, lt-leb, cond-true, cond-false, cases
 use mathlib.Core.Logic.{⊎-elim}
 use Rattle.std.proofs.shelf.Lists.{length-take-le, take-more-set}
 use Rattle.std.specs.declared.cmp.Ordering.{Ordering}
-use Rattle.elements.specs.Refusals.{Answer, by-with}
+use Rattle.elements.specs.Refusals.{by-with}
 use Rattle.elements.specs.Refusals.Answer.{accepted, refused}
 use Rattle.rows.specs.Sifts.{siftUp}
-use Rattle.heap_model.specs.Held.{Held, placesOf, rowLength, heldOf}
+use Rattle.heap_model.specs.Held.{placesOf, rowLength, heldOf}
 use Rattle.heap_model.specs.Calls.{full, pushedRow, pushed, reserveAnswer, pushAnswer}
 use Rattle.heap_model.proofs.Holding.{places-fit, places-most, row-in-places, row-is, row-long, leaves-all}
 use Rattle.heap_model.proofs.Reserving.{reserve-fits, reserve-misses}

@@ -5,7 +5,7 @@ use Prim.Native.Nat.{ℕ, _+_, _-_, _^_, _≤_, _<_}
 use native.Mathlib.Omega.{arith}
 use lib.ListN.{length}
 use Rattle.std.proofs.shelf.Tests.{le-leb, lt-leb, lt-ltb, le-ltb, cond-true, cond-false}
-use Rattle.elements.specs.Refusals.{Answer, by, by-with}
+use Rattle.elements.specs.Refusals.{by, by-with}
 use Rattle.elements.specs.Refusals.Answer.{accepted, refused}
 use Rattle.heap_model.specs.Held.{placesOf, rowLength, heldOf}
 use Rattle.heap_model.specs.Calls.{reserveAnswer}

@@ -1,12 +1,12 @@
 -- What a retain leaves of the heap and of the keeper.
-use mathlib.Core.Path.{_≡_, refl, sym, ap, subst, _∙_}
+use mathlib.Core.Path.{_≡_, refl, sym, ap, _∙_}
 use mathlib.Core.Bool.{Bool, true, false, cond}
-use mathlib.Core.List.{List, [], _++_, append-nil}
-use Prim.Native.Nat.{ℕ, _+_, _≤_, _<_, min}
+use mathlib.Core.List.{List, [], _++_}
+use Prim.Native.Nat.{ℕ, _≤_, _<_}
 use native.Mathlib.Omega.{arith}
 use lib.Dec.{ltb}
 use lib.ListN.{length, take, drop}
-use Rattle.std.proofs.shelf.Lists.{length-take-le, take-at, drop-at, drop-all}
+use Rattle.std.proofs.shelf.Lists.{length-take-le, take-at, drop-at}
 use Rattle.std.proofs.shelf.Tests.{ltb-true, ltb-false, lt-ltb, le-ltb, cond-true, cond-false}
 use Rattle.std.specs.declared.cmp.Ordering.{Ordering}
 use Rattle.rows.specs.Rebuilds.{tailRebuilt}
@@ -16,7 +16,7 @@ use Rattle.keepers.specs.Steps.{Said}
 use Rattle.keepers.specs.Keeps.{asked, kept, firstNo, holdsThrough}
 use Rattle.keepers.specs.Closes.{Closed, closed}
 use Rattle.keepers.proofs.Kept.{kept-few, kept-all, first-few, whole}
-use Rattle.heap_model.specs.Held.{Held, placesOf, rowLength, heldOf, leave}
+use Rattle.heap_model.specs.Held.{heldOf, leave}
 use Rattle.heap_model.specs.Retention.{retainedRow, retained}
 use Rattle.heap_model.proofs.Holding.{row-in-places, row-fits, row-is, row-long, leaves}
 

@@ -1,6 +1,6 @@
 -- The sifts only rearrange a row.
-use mathlib.Core.Path.{_≡_, refl, sym, ap, subst, _∙_}
-use mathlib.Core.Bool.{Bool, true, false, cond}
+use mathlib.Core.Path.{_≡_, refl, ap, subst, _∙_}
+use mathlib.Core.Bool.{Bool, true, cond}
 use mathlib.Core.Logic.{_≢_, ∥∥₁-elim}
 use mathlib.Core.List.{List, [], _∷_, Perm, List·Permᴰ, Perm·refl, Perm·trans, Perm·cons, Perm·swap, Perm·cons-inv}
 use mathlib.Core.List.List·Permᴰ.{List·Permᴰ·nil, List·Permᴰ·cons, List·Permᴰ·swap, List·Permᴰ·trans}

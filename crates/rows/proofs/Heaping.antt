@@ -1,7 +1,7 @@
 -- The sifts put whole rows in order.
 use mathlib.Core.Path.{_≡_, sym, subst}
 use mathlib.Core.List.{List, [], _∷_}
-use Prim.Native.Nat.{ℕ, zero, suc, _+_, _/_, _≤_, _<_}
+use Prim.Native.Nat.{ℕ, zero, suc, _≤_, _<_}
 use native.Mathlib.Omega.{arith}
 use lib.ListN.{length, getD}
 use Rattle.std.proofs.shelf.Lists.{getD-default, getD-read}
@@ -9,7 +9,7 @@ use Rattle.std.specs.declared.cmp.Ordering.{Ordering}
 use Rattle.rows.specs.Sifts.{Sifted, parent, rise, siftUp, siftDown, siftToLeaf, siftDownToBottom}
 use Rattle.elements.specs.Orders.{Lawful}
 use Rattle.rows.specs.Heaps.{InOrder, Heaped, FrontHeaped, HeapedFrom}
-use Rattle.rows.proofs.Holes.{Edge, Ordered, Gap, Over}
+use Rattle.rows.proofs.Holes.{Ordered, Gap, Over}
 use Rattle.rows.proofs.Comparisons.{Le, le-self, le-trans}
 use Rattle.rows.proofs.Settling.{look, rises, falls, Landed, lands}
 use Rattle.rows.proofs.Bags.{length-perm, up-perm, down-perm, leaf-kept, bottom-perm}

@@ -1,7 +1,6 @@
 ghost use mathlib.Core.Path.{_≡_};
 ghost use lib.Dec.{ltb};
 ghost use lib.ListN.{take};
-ghost use denote.Ref.{now};
 ghost use Rattle.supplies.specs.Nexts.{Takes};
 use crate::supply::Supply;
 
