@@ -3,6 +3,7 @@ ghost use denote.Ref.{now};
 ghost use Rattle.heap_model.proofs.Adopting.{Adopts};
 ghost use Rattle.heap_model.proofs.Appending.{Appends};
 ghost use Rattle.heap_model.proofs.Draining.{Drains};
+ghost use Rattle.heap_model.proofs.Editing.{Settles};
 ghost use Rattle.heap_model.proofs.Extending.{Extends};
 ghost use Rattle.heap_model.proofs.Holding.{Reads};
 ghost use Rattle.heap_model.proofs.Popping.{Pops};
@@ -49,5 +50,9 @@ impl<'a, T: Element> BinaryHeap<'a, T> {
 
     pub(crate) fn retain_laws<K: Keeper<T>>(&self, keeper: &K)
         ensures { λ _. ⌜ Retains ordering step (holds (now (keeper .entry))) (now (now (self .entry) .memory)) (now (self .entry) .len) ⌝ }
+    {}
+
+    pub(crate) fn settle_laws(&self)
+        ensures { λ _. ⌜ Settles ordering (now (now (self .entry) .memory)) (now (self .entry) .len) ⌝ }
     {}
 }

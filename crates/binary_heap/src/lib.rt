@@ -6,22 +6,23 @@ ghost use denote.Ref.{now, name};
 ghost use Rattle.std.specs.declared.option.Option.the-variants.{Some, None};
 ghost use Rattle.std.specs.Options.{Cases as BySome};
 ghost use Rattle.std.specs.Results.{Cases as ByOk};
+ghost use Rattle.account.specs.Account.{Promise};
 ghost use Rattle.elements.specs.Refusals.{told};
 ghost use Rattle.rows.specs.Sifts.{siftUp};
 ghost use Rattle.heap_model.specs.Calls.{itemAt, front, reserveAnswer, pushed, pushAnswer, popped, popAnswer};
 ghost use Rattle.heap_model.specs.Faults.{refuses-row, refuses-heap};
 ghost use Rattle.heap_model.specs.Held.{placesOf, places, emptyOn};
-ghost use Rattle.heap_model.specs.Promise.{Promise};
 ghost use Rattle.heap_model.proofs.Popping.{frontTaken};
 ghost use Rattle.binary_heap.specs.Heaps.{held, rowOf};
+use account::promise_holds;
 use elements::element::Element;
 use heap_model::fault::HeapFault;
 use heap_model::fault::HeapFaultFromRow;
 use heap_model::fault::TryReserveErrorKind;
-use heap_model::laws::heap_is_lawful;
 use rows::sift::sift_down_to_bottom;
 use rows::sift::sift_up;
 
+pub mod edit;
 mod growth;
 mod laws;
 mod removal;
@@ -39,7 +40,7 @@ impl<'a, T: Element> BinaryHeap<'a, T> {
         ensures promise { λ _. ⌜ Promise ordering ⌝ }
         ensures lender { λ r. ⌜ name (r .memory) ≡ name (memory .entry) ⌝ }
     {
-        heap_is_lawful::<T>();
+        promise_holds::<T>();
         BinaryHeap { memory, len: 0 }
     }
 

@@ -1,40 +1,32 @@
 -- The calls keep heap order, lose nothing, and hand out the greatest.
-use mathlib.Core.Path.{_≡_, refl, sym, ap, subst, _∙_}
+use mathlib.Core.Path.{_≡_, refl, sym, subst, _∙_}
 use mathlib.Core.Bool.{Bool, true, false, cond}
-use mathlib.Core.List.{List, [], _∷_, _++_, Perm, List·Permᴰ·append-comm, perm-middle, perm-append-singleton, Perm·refl, Perm·symm, Perm·trans, Perm·cons, Perm·swap, Perm·append-left}
-use Prim.Native.Nat.{ℕ, zero, suc, _-_, _≤_, _<_, min}
+use mathlib.Core.List.{List, [], _∷_, _++_, Perm, List·Permᴰ·append-comm, perm-middle, perm-append-singleton, Perm·refl, Perm·symm, Perm·trans, Perm·cons, Perm·swap}
+use Prim.Native.Nat.{ℕ, zero, suc, _≤_, _<_, min}
 use native.Mathlib.Omega.{arith}
-use lib.Dec.{leb, ltb}
+use lib.Dec.{ltb}
 use lib.ListN.{length, getD, set, take, length-set, length-take, length-append}
 use lib.Seq.{getD-set-other, getD-take}
-use Rattle.std.proofs.shelf.Tests.{cond-both, cond-true, cond-false, ltb-false}
+use Rattle.std.proofs.shelf.Tests.{cond-both, ltb-false}
 use Rattle.std.proofs.shelf.Lists.{getD-append-left}
 use Rattle.std.proofs.shelf.Elements.{all-from-getD}
 use Rattle.std.specs.declared.cmp.Ordering.{Ordering}
-use Rattle.std.specs.declared.option.Option.{Option}
-use Rattle.std.specs.declared.option.Option.the-variants.{Some, None}
+use Rattle.std.specs.declared.option.Option.the-variants.{Some}
 use Rattle.std.specs.shelf.Lists.{All}
-use Rattle.elements.specs.declared.refusal.Refusal.{Refusal}
 use Rattle.elements.specs.Orders.{exceeds, Lawful}
-use Rattle.elements.specs.Refusals.{Answer, by, by-with}
-use Rattle.elements.specs.Refusals.Answer.{accepted, refused}
 use Rattle.keepers.specs.Keeps.{kept, dropped, firstNo}
 use Rattle.keepers.proofs.Kept.{kept-few, kept-all, first-few}
-use Rattle.rows.specs.Sifts.{parent, siftUp, siftToLeaf, siftDownToBottom}
-use Rattle.rows.specs.Rebuilds.{rebuilt, tailRebuilt}
+use Rattle.rows.specs.Sifts.{parent, siftUp, siftToLeaf}
+use Rattle.rows.specs.Rebuilds.{tailRebuilt}
 use Rattle.rows.specs.Heaps.{InOrder, Heaped, FrontHeaped, HeapedFrom}
 use Rattle.rows.proofs.Comparisons.{Le}
 use Rattle.rows.proofs.Bags.{length-perm, up-perm, bottom-perm}
 use Rattle.rows.proofs.Heaping.{up-heap, bottom-heap, front-greatest}
-use Rattle.rows.proofs.Rebuilding.{rebuilt-perm, tail-perm, rebuilt-heap, tail-heap}
-use Rattle.heap_model.specs.Held.{Held, places, leave, emptyOn}
-use Rattle.heap_model.specs.Calls.{front, fits, full, pushedRow, pushed, poppedRow, popped, lastInFront, popAnswer, allowed, poppedFor, popIfAnswer, poppedIf, cleared, drained}
-use Rattle.heap_model.specs.Growth.{taken, extendedRow, extended, appendedRow, appended, appendedFrom, adopted, adoptAnswer}
-use Rattle.heap_model.specs.Retention.{retainedRow, retained}
-use Rattle.heap_model.specs.Promise.{Promise}
-
-not-both : {r : Refusal} → _≡_ {A = Answer (Unit {0})} (accepted tt) (refused r) → ⊥
-not-both e = let z : _≡_ {A = ℕ} 0 1 = cc in omega arith
+use Rattle.rows.proofs.Rebuilding.{tail-perm, tail-heap}
+use Rattle.heap_model.specs.Held.{Held}
+use Rattle.heap_model.specs.Calls.{front, pushedRow, poppedRow, lastInFront}
+use Rattle.heap_model.specs.Growth.{taken, extendedRow, extended, appendedRow}
+use Rattle.heap_model.specs.Retention.{retainedRow}
 
 -- the last element, taken to the front
 last-first : {X : Type 0} (y : X) (zs : List X) (d : X) → Perm (y ∷ zs) (getD (y ∷ zs) (length zs) d ∷ take (length zs) (y ∷ zs))
@@ -43,7 +35,7 @@ last-first y (z ∷ zs) d = Perm·trans (Perm·cons y (last-first z zs d)) (Perm
 
 module _ {X : Type 0} (ordering : X → X → Ordering) where
   -- two rows that agree at k and its parent
-  moved : (row row′ : List X) (k : ℕ) → ((d : X) → getD row k d ≡ getD row′ k d) → ((d : X) → getD row (parent k) d ≡ getD row′ (parent k) d) → InOrder ordering row k → InOrder ordering row′ k
+  pub moved : (row row′ : List X) (k : ℕ) → ((d : X) → getD row k d ≡ getD row′ k d) → ((d : X) → getD row (parent k) d ≡ getD row′ (parent k) d) → InOrder ordering row k → InOrder ordering row′ k
   moved row row′ k e p h d = subst (λ u. Le ordering u (getD row′ (parent k) d)) (e d) (subst (λ v. Le ordering (getD row k d) v) (p d) (h d))
 
   pub pushed-perm : (x : X) (row : List X) → Perm (x ∷ row) (pushedRow ordering x row)
@@ -59,13 +51,13 @@ module _ {X : Type 0} (ordering : X → X → Ordering) where
   pub front-heap : (row more : List X) → Heaped ordering row → FrontHeaped ordering (length row) (row ++ more)
   front-heap row more h k p q = moved row (row ++ more) k (λ d. sym (getD-append-left row more d k q)) (λ d. sym (getD-append-left row more d (parent k) (omega arith))) (h k p q)
 
-  -- however much of a heap is kept, and whatever is written at its front, what stands behind the front stays in order
-  pub cut-heap : (m : ℕ) (x : X) (row : List X) → Heaped ordering row → HeapedFrom ordering 1 (set (take m row) 0 x)
+  -- however much of a row is kept, and whatever is written at its front, what stands behind the front stays in order
+  pub cut-heap : (m : ℕ) (x : X) (row : List X) → HeapedFrom ordering 1 row → HeapedFrom ordering 1 (set (take m row) 0 x)
   cut-heap m x row h k p q r =
       let long : length (set (take m row) 0 x) ≡ min m (length row) = length-set (take m row) 0 x ∙ length-take m row in
       let at : (i : ℕ) → 0 < i → i ≤ k → (d : X) → getD row i d ≡ getD (set (take m row) 0 x) i d
       = λ i a b d. sym (getD-set-other (take m row) 0 i x d (omega arith) ∙ getD-take m row i d (omega arith)) in
-      moved row (set (take m row) 0 x) k (at k (omega arith) (omega arith)) (at (parent k) (omega arith) (omega arith)) (h k p (omega arith))
+      moved row (set (take m row) 0 x) k (at k (omega arith) (omega arith)) (at (parent k) (omega arith) (omega arith)) (h k p (omega arith) r)
 
   module _ (lawful : Lawful ordering) where
     pub pushed-heap : (x : X) (row : List X) → Heaped ordering row → Heaped ordering (pushedRow ordering x row)
@@ -76,46 +68,21 @@ module _ {X : Type 0} (ordering : X → X → Ordering) where
         let same : length all ≡ length (pushedRow ordering x row) = length-perm (up-perm ordering all 0 (length row) (omega arith)) in
         subst (λ n. FrontHeaped ordering n (pushedRow ordering x row)) (sym long ∙ same) (up-heap ordering lawful all (length row) (omega arith) (front-heap row (x ∷ []) h))
 
-    pub popped-heap : (row : List X) → Heaped ordering row → Heaped ordering (poppedRow ordering row)
+    pub popped-heap : (row : List X) → HeapedFrom ordering 1 row → Heaped ordering (poppedRow ordering row)
     unfolding poppedRow
-    popped-heap [] h = h
+    popped-heap [] h = λ k p q. absurd (omega arith)
     popped-heap (d ∷ ds) h = bottom-heap ordering lawful (lastInFront ordering d ds) (cut-heap (length ds) (getD (d ∷ ds) (length ds) d) (d ∷ ds) h)
-
-  -- a cond between what was held and another row
-  either : (P : List X → Type 0) (b : Bool) (h : Held X) (row : List X) → P (h .row) → P row → P (cond b h (leave row h) .row)
-  either P b h row stay more = cond-both b h (leave row h) (λ g. P (g .row)) (λ _. stay) (λ _. more)
-
-  push-perm : (x : X) (h : Held X) → full h ≡ false → Perm (x ∷ h .row) (pushed ordering x h .row)
-  unfolding pushed
-  push-perm x h f = subst (λ (g : Held X). Perm (x ∷ h .row) (g .row)) (sym (cond-false _ _ _ f)) (pushed-perm x (h .row))
 
   -- the front of a row that is not empty
   at-front : (P : List X → X → Type 0) (row : List X) (x : X) → ((d : X) (ds : List X) → P (d ∷ ds) d) → front row ≡ Some x → P row x
   at-front P [] x f e = let z : _≡_ {A = ℕ} 0 1 = cc in absurd (omega arith)
   at-front P (d ∷ ds) x f e = let same : d ≡ x = cc in subst (P (d ∷ ds)) same (f d ds)
 
-  pop-perm : (x : X) (h : Held X) → popAnswer h ≡ Some x → Perm (h .row) (x ∷ popped ordering h .row)
-  unfolding popped
-  pop-perm x h e = at-front (λ row x. Perm row (x ∷ poppedRow ordering row)) (h .row) x (λ d ds. Perm·cons d (popped-perm d ds)) e
-
-  -- what is handed out by a keeper's leave is the front
-  front-allowed : (says : X → Bool) (o : Option X) (x : X) → allowed says o ≡ Some x → o ≡ Some x
-  front-allowed says None x e = e
-  front-allowed says (Some y) x e = (elim (says y) as (λ b. cond b (Some y) None ≡ Some x → Some y ≡ Some x) [ true ↦ λ d. d | false ↦ λ d. let z : _≡_ {A = ℕ} 0 1 = cc in absurd (omega arith) ]) e
-
-  popped-for : (P : Held X → Type 0) (o : Option X) (h : Held X) → P h → P (popped ordering h) → P (poppedFor ordering o h)
-  popped-for P None h stay gone = stay
-  popped-for P (Some x) h stay gone = gone
-
-  pop-if-perm : (says : X → Bool) (x : X) (h : Held X) → popIfAnswer says h ≡ Some x → Perm (h .row) (x ∷ poppedIf ordering says h .row)
-  pop-if-perm says x h e =
-      subst (λ o. Perm (h .row) (x ∷ poppedFor ordering o h .row)) (sym e) (pop-perm x h (front-allowed says (front (h .row)) x e))
-
-  extend-perm : (rest : List X) (h : Held X) → Perm (h .row ++ take (taken rest h) rest) (extended ordering rest h .row)
+  pub extend-perm : (rest : List X) (h : Held X) → Perm (h .row ++ take (taken rest h) rest) (extended ordering rest h .row)
   unfolding extended extendedRow
   extend-perm rest h = tail-perm ordering (length (h .row)) (h .row ++ take (taken rest h) rest)
 
-  appended-perm : (ours theirs : List X) → Perm (ours ++ theirs) (appendedRow ordering ours theirs)
+  pub appended-perm : (ours theirs : List X) → Perm (ours ++ theirs) (appendedRow ordering ours theirs)
   unfolding appendedRow
   appended-perm ours theirs =
       elim (ltb (length ours) (length theirs)) as (λ t. Perm (ours ++ theirs) (tailRebuilt ordering (cond t (length theirs) (length ours)) (cond t (theirs ++ ours) (ours ++ theirs)))) [
@@ -123,26 +90,8 @@ module _ {X : Type 0} (ordering : X → X → Ordering) where
         | false ↦ tail-perm ordering (length ours) (ours ++ theirs)
       ]
 
-  append-perm : (h other : Held X) → fits (length (other .row)) h ≡ true → Perm (h .row ++ other .row) (appended ordering h other .row)
-  unfolding appended
-  append-perm h other f = subst (λ (g : Held X). Perm (h .row ++ other .row) (g .row)) (sym (cond-true _ _ _ f)) (appended-perm (h .row) (other .row))
-
-  adopt-perm : (n : ℕ) (h : Held X) → accepted tt ≡ adoptAnswer n h → Perm (take n (h .memory)) (adopted ordering n h .row)
-  unfolding adopted adoptAnswer
-  adopt-perm n h a =
-      let some : Bool = ltb 0 (length (h .row)) in
-      let room : Bool = leb n (places h) in
-      let out : Held X = leave (rebuilt ordering (take n (h .memory))) h in
-      (elim some as (λ b. accepted tt ≡ cond b (refused (by 3)) (cond room (accepted tt) (refused (by-with 2 (n - places h)))) → Perm (take n (h .memory)) (cond b h (cond room out h) .row)) [
-        | true ↦ λ e. absurd (not-both e)
-        | false ↦ λ e. (elim room as (λ b. accepted tt ≡ cond b (accepted tt) (refused (by-with 2 (n - places h))) → Perm (take n (h .memory)) (cond b out h .row)) [
-          | true ↦ λ _. rebuilt-perm ordering (take n (h .memory))
-          | false ↦ λ e. absurd (not-both e)
-        ]) e
-      ]) a
-
   module _ (says : List X → X → Bool) where
-    kept-perm : (past xs : List X) → Perm xs (dropped says past xs ++ kept says past xs)
+    pub kept-perm : (past xs : List X) → Perm xs (dropped says past xs ++ kept says past xs)
     kept-perm past [] = Perm·refl []
     kept-perm past (x ∷ xs) =
         let ds : List X = dropped says (x ∷ past) xs in
@@ -153,17 +102,13 @@ module _ {X : Type 0} (ordering : X → X → Ordering) where
           | false ↦ more
         ]
 
-    retained-perm : (row : List X) → Perm (kept says [] row) (retainedRow ordering says row)
+    pub retained-perm : (row : List X) → Perm (kept says [] row) (retainedRow ordering says row)
     unfolding retainedRow
     retained-perm row =
         let ks : List X = kept says [] row in
         cond-both (ltb (length ks) (length row)) (tailRebuilt ordering (firstNo says [] row) ks) row (Perm ks)
         (λ _. tail-perm ordering (firstNo says [] row) ks)
         (λ t. subst (Perm ks) (kept-all says [] row (ltb-false (length ks) (length row) t)) (Perm·refl ks))
-
-    retain-perm : (h : Held X) → Perm (h .row) (dropped says [] (h .row) ++ retained ordering says h .row)
-    unfolding retained
-    retain-perm h = Perm·trans (kept-perm [] (h .row)) (Perm·append-left (dropped says [] (h .row)) (retained-perm (h .row)))
 
     -- up to the first with a no, those kept are the row
     kept-same : (past xs : List X) (k : ℕ) (d : X) → k < firstNo says past xs → getD xs k d ≡ getD (kept says past xs) k d
@@ -178,26 +123,18 @@ module _ {X : Type 0} (ordering : X → X → Ordering) where
         ]) l
 
   module _ (lawful : Lawful ordering) where
-    greatest : (x : X) (row : List X) → front row ≡ Some x → Heaped ordering row → All (λ y. exceeds ordering y x ≡ false) row
+    pub greatest : (x : X) (row : List X) → front row ≡ Some x → Heaped ordering row → All (λ y. exceeds ordering y x ≡ false) row
     greatest x row e = at-front (λ row x. Heaped ordering row → All (λ y. exceeds ordering y x ≡ false) row) row x
         (λ d ds h. all-from-getD (λ y. exceeds ordering y d ≡ false) (d ∷ ds) d (λ i l. front-greatest ordering lawful (d ∷ ds) h i d l)) e
 
-    push-heap : (x : X) (h : Held X) → Heaped ordering (h .row) → Heaped ordering (pushed ordering x h .row)
-    unfolding pushed
-    push-heap x h o = either (Heaped ordering) (full h) h (pushedRow ordering x (h .row)) o (pushed-heap lawful x (h .row) o)
-
-    pop-heap : (h : Held X) → Heaped ordering (h .row) → Heaped ordering (popped ordering h .row)
-    unfolding popped
-    pop-heap h = popped-heap lawful (h .row)
-
-    added-heap : (row more : List X) → Heaped ordering row → Heaped ordering (tailRebuilt ordering (length row) (row ++ more))
+    pub added-heap : (row more : List X) → Heaped ordering row → Heaped ordering (tailRebuilt ordering (length row) (row ++ more))
     added-heap row more h = tail-heap ordering lawful (length row) (row ++ more) (front-heap row more h)
 
-    extend-heap : (rest : List X) (h : Held X) → Heaped ordering (h .row) → Heaped ordering (extended ordering rest h .row)
+    pub extend-heap : (rest : List X) (h : Held X) → Heaped ordering (h .row) → Heaped ordering (extended ordering rest h .row)
     unfolding extended extendedRow
     extend-heap rest h o = added-heap (h .row) (take (taken rest h) rest) o
 
-    appended-heap : (ours theirs : List X) → Heaped ordering ours → Heaped ordering theirs → Heaped ordering (appendedRow ordering ours theirs)
+    pub appended-heap : (ours theirs : List X) → Heaped ordering ours → Heaped ordering theirs → Heaped ordering (appendedRow ordering ours theirs)
     unfolding appendedRow
     appended-heap ours theirs h i =
         elim (ltb (length ours) (length theirs)) as (λ t. Heaped ordering (tailRebuilt ordering (cond t (length theirs) (length ours)) (cond t (theirs ++ ours) (ours ++ theirs)))) [
@@ -205,18 +142,7 @@ module _ {X : Type 0} (ordering : X → X → Ordering) where
           | false ↦ added-heap ours theirs h
         ]
 
-    append-heap : (h other : Held X) → Heaped ordering (h .row) → Heaped ordering (other .row) → Heaped ordering (appended ordering h other .row)
-    unfolding appended
-    append-heap h other o i = cond-both (fits (length (other .row)) h) (leave (appendedRow ordering (h .row) (other .row)) h) h (λ g. Heaped ordering (g .row)) (λ _. appended-heap (h .row) (other .row) o i) (λ _. o)
-
-    adopt-heap : (n : ℕ) (h : Held X) → Heaped ordering (h .row) → Heaped ordering (adopted ordering n h .row)
-    unfolding adopted
-    adopt-heap n h o =
-        let out : Held X = leave (rebuilt ordering (take n (h .memory))) h in
-        cond-both (ltb 0 (length (h .row))) h (cond (leb n (places h)) out h) (λ g. Heaped ordering (g .row)) (λ _. o)
-        (λ _. cond-both (leb n (places h)) out h (λ g. Heaped ordering (g .row)) (λ _. rebuilt-heap ordering lawful (take n (h .memory))) (λ _. o))
-
-    retained-heap : (says : List X → X → Bool) (row : List X) → Heaped ordering row → Heaped ordering (retainedRow ordering says row)
+    pub retained-heap : (says : List X → X → Bool) (row : List X) → Heaped ordering row → Heaped ordering (retainedRow ordering says row)
     unfolding retainedRow
     retained-heap says row h =
         let ks : List X = kept says [] row in
@@ -226,40 +152,3 @@ module _ {X : Type 0} (ordering : X → X → Ordering) where
         cond-both (ltb (length ks) (length row)) (tailRebuilt ordering n ks) row (Heaped ordering)
         (λ _. tail-heap ordering lawful n ks (λ k p q. moved row ks k (λ d. kept-same says [] row k d q) (λ d. kept-same says [] row (parent k) d (omega arith)) (h k p (omega arith))))
         (λ _. h)
-
-    retain-heap : (says : List X → X → Bool) (h : Held X) → Heaped ordering (h .row) → Heaped ordering (retained ordering says h .row)
-    unfolding retained
-    retain-heap says h = retained-heap says (h .row)
-
-    nothing : Heaped ordering []
-    nothing k p q = absurd (omega arith)
-
-    other-heap : (h other : Held X) → Heaped ordering (other .row) → Heaped ordering (appendedFrom h other .row)
-    unfolding appendedFrom
-    other-heap h other o = cond-both (fits (length (other .row)) h) (cleared other) other (λ g. Heaped ordering (g .row)) (λ _. nothing) (λ _. o)
-
-    drain-heap : (room : ℕ) (h : Held X) → Heaped ordering (h .row) → Heaped ordering (drained room h .row)
-    unfolding drained
-    drain-heap room h o = cond-both (leb (length (h .row)) room) (cleared h) h (λ g. Heaped ordering (g .row)) (λ _. nothing) (λ _. o)
-
-    pub promised : Promise ordering
-    promised = record {
-      ordered = record {
-        new = λ memory. nothing;
-        push = push-heap;
-        pop = pop-heap;
-        pop-if = λ says h o. popped-for (λ g. Heaped ordering (g .row)) (popIfAnswer says h) h o (pop-heap h o);
-        extend = extend-heap;
-        append = append-heap;
-        append-other = other-heap;
-        adopt = adopt-heap;
-        retain = retain-heap;
-        drain = drain-heap;
-        clear = λ h. nothing;
-      };
-      nothing-lost = record { push = push-perm; pop = pop-perm; pop-if = pop-if-perm; extend = extend-perm; append = append-perm; adopt = adopt-perm; retain = retain-perm };
-      greatest = record {
-        pop = λ x h o e. greatest x (h .row) e o;
-        pop-if = λ says x h o e. greatest x (h .row) (front-allowed says (front (h .row)) x e) o;
-      };
-    }

@@ -9,4 +9,5 @@ pub mod Adopting
 pub mod Appending
 pub mod Extending
 pub mod Retaining
+pub mod Editing
 pub mod Keeping

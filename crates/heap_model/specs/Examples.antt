@@ -16,6 +16,7 @@ use Rattle.keepers.specs.Steps.{ceilingStep}
 use Rattle.rows.specs.Rebuilds.{rebuilds}
 use Rattle.heap_model.specs.Held.{Held, emptyOn}
 use Rattle.heap_model.specs.Calls.{pushed, popped, popAnswer}
+use Rattle.heap_model.specs.Edits.{Edited, opened, frontSet, refreshed, refreshAnswer, placeAfter, markAfter}
 use Rattle.heap_model.specs.Growth.{extended, extendAnswer, appended}
 use Rattle.heap_model.specs.Retention.{retained}
 
@@ -36,6 +37,10 @@ pub data Example : Type 0 where
   appending : List ℕ → List ℕ → List ℕ → Example
   -- this row retained by a ceiling of this level gives that row
   retaining : List ℕ → ℕ → List ℕ → Example
+  -- of this row with its front set to this, refresh says yes and gives that row, and a second says no
+  refreshing : List ℕ → ℕ → List ℕ → Example
+  -- of this row with its front set to this, the edit's pop hands out what was set and leaves that row
+  editing : List ℕ → ℕ → List ℕ → Example
   -- whether a row of this length with a tail of this length is rebuilt whole
   choosing : ℕ → ℕ → Bool → Example
 
@@ -54,6 +59,12 @@ Holds (extending cs row) = extended by-rank (map clause cs) (emptyOn (replicate 
 Holds (refusing places xs count row) = (extendAnswer xs (emptyOn (replicate places 0)) ≡ refused (by-with 2 count)) × (extended by-size xs (emptyOn (replicate places 0)) .row ≡ row)
 Holds (appending row other out) = appended by-size (holding 0 row) (holding 0 other) .row ≡ out
 Holds (retaining row level out) = retained by-size (asked (ceilingStep by-size) level) (holding 0 row) .row ≡ out
+Holds (refreshing row x out) =
+    let e : Edited ℕ = frontSet x (opened (holding 0 row)) in
+    (refreshAnswer by-size e ≡ true) × (refreshed by-size e .heap .row ≡ out) × (refreshAnswer by-size (refreshed by-size e) ≡ false)
+Holds (editing row x left) =
+    let e : Edited ℕ = frontSet x (opened (holding 0 row)) in
+    (placeAfter (e .heap .row) 0 ≡ x) × (markAfter (e .heap .row) ≡ true) × (popped by-size (e .heap) .row ≡ left)
 Holds (choosing len tail whole) = rebuilds (len - tail) len ≡ whole
 
 abbrev pub examples : List Example
@@ -65,6 +76,8 @@ examples =
     ∷ refusing 2 (1 ∷ 2 ∷ 3 ∷ []) 2 (2 ∷ 1 ∷ [])
     ∷ appending (9 ∷ 5 ∷ []) (8 ∷ 7 ∷ 6 ∷ []) (9 ∷ 8 ∷ 6 ∷ 7 ∷ 5 ∷ [])
     ∷ retaining (9 ∷ 5 ∷ 8 ∷ 4 ∷ 3 ∷ 7 ∷ 6 ∷ []) 8 (8 ∷ 7 ∷ 6 ∷ 3 ∷ 5 ∷ 4 ∷ [])
+    ∷ refreshing (5 ∷ 4 ∷ 3 ∷ 1 ∷ 2 ∷ []) 0 (4 ∷ 2 ∷ 3 ∷ 1 ∷ 0 ∷ [])
+    ∷ editing (5 ∷ 4 ∷ 3 ∷ 1 ∷ 2 ∷ []) 0 (4 ∷ 2 ∷ 3 ∷ 1 ∷ [])
     ∷ choosing 2048 409 false
     ∷ choosing 2048 410 true
     ∷ choosing 2049 372 false

@@ -1,7 +1,7 @@
 -- The calls that bring in many elements at once: extend, append and adopt.
-use mathlib.Core.Bool.{Bool, cond}
+use mathlib.Core.Bool.{cond}
 use mathlib.Core.List.{List, _++_}
-use Prim.Native.Nat.{ℕ, _+_, _-_, min}
+use Prim.Native.Nat.{ℕ, _-_, min}
 use lib.Dec.{leb, ltb}
 use lib.ListN.{length, take}
 use Rattle.std.specs.declared.cmp.Ordering.{Ordering}

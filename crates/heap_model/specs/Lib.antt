@@ -3,5 +3,5 @@ pub mod Held
 pub mod Calls
 pub mod Growth
 pub mod Retention
-pub mod Promise
+pub mod Edits
 pub mod Examples

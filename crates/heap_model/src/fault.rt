@@ -16,6 +16,7 @@ pub enum TryReserveErrorKind {
 pub enum HeapFault {
     Row(TryReserveErrorKind),
     NotEmpty,
+    EmptyEdit,
     ShortList,
 }
 
@@ -52,6 +53,10 @@ pub impl Fault for HeapFault as HeapFaultFault {
             HeapFault::Row(fault) => fault.refusal(),
             HeapFault::NotEmpty => Refusal {
                 number: 3,
+                carries: None,
+            },
+            HeapFault::EmptyEdit => Refusal {
+                number: 4,
                 carries: None,
             },
             HeapFault::ShortList => Refusal {
