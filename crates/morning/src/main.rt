@@ -1,14 +1,18 @@
 // A morning on the dock: the standing clauses are taken in, others arrive, the one in front is shown
-// as it changes, those above a rank are withdrawn, and at the end all are handed out.
+// as it changes, those above a rank are withdrawn, the front is corrected, and at the end all are
+// handed out.
 ghost use mathlib.Core.Path.{_≡_};
+ghost use mathlib.Core.Bool.{not};
 ghost use mathlib.Core.List.{[]};
+ghost use lib.Dec.{eqb};
 ghost use lib.ListN.{length};
 ghost use denote.Ref.{now};
 ghost use Rattle.std.specs.Results.{Cases as ByOk};
-ghost use Rattle.elements.specs.Clauses.{made, refuses-clause};
+ghost use Rattle.elements.specs.Clauses.{made, refuses-clause, by-rank};
 ghost use Rattle.elements.specs.Refusals.{told};
 ghost use Rattle.elements.specs.Refusals.Answer.{accepted};
 ghost use Rattle.heap_model.specs.Calls.{front};
+ghost use Rattle.heap_model.specs.Edits.{opened, frontSet, settled};
 ghost use Rattle.binary_heap.specs.Heaps.{held};
 ghost use Rattle.morning.specs.Arrivals.{refuses-arrival, arrivalAnswer, arrived, numberOf, standingClauses};
 ghost use Rattle.morning.specs.declared.ArrivalFault.the-variants.{Clause as OfClause, Heap as OfHeap};
@@ -154,8 +158,27 @@ fn standing() -> Result<[Clause; 3], ClauseFault>
     ])
 }
 
+// Writes another clause over the front and puts the row in order; answers whether there was a front.
+fn correct<'a>(
+    heap: BinaryHeap<'a, Clause>,
+    clause: Clause,
+    done: &mut bool,
+) -> BinaryHeap<'a, Clause>
+    ensures heap { λ r. ⌜ held r ≡ settled by-rank (frontSet clause (opened (held (heap .entry)))) ⌝ }
+    ensures done { λ _. ⌜ now (done .exit) ≡ not (eqb (length (held (heap .entry) .row)) 0) ⌝ }
+{
+    *done = !heap.is_empty();
+    let mut edit = heap.peek_mut();
+    let _ = edit.set(clause);
+    edit.close()
+}
+
 fn main(rt: LibcRuntime) -> io::Result<()> {
-    let (Ok(standing), Ok(noon)) = (standing(), Clause::new(NOON_RANK, 0, 0)) else {
+    let (Ok(standing), Ok(noon), Ok(lowered)) = (
+        standing(),
+        Clause::new(NOON_RANK, 0, 0),
+        Clause::new(4, 102, 60),
+    ) else {
         return rt.println("the day has no clauses");
     };
     let mut places = [noon; 8];
@@ -178,6 +201,12 @@ fn main(rt: LibcRuntime) -> io::Result<()> {
     heap.retain(&mut Ceiling::new(noon));
     let left = heap.len();
     println!(rt, "noon: {left} clauses left, of rank {NOON_RANK} or less")?;
+    shown = show_front(&rt, &heap, shown)?;
+    let mut corrected = false;
+    let mut heap = correct(heap, lowered, &mut corrected);
+    if corrected {
+        println!(rt, "the front was corrected, and is of rank 4 now")?;
+    }
     show_front(&rt, &heap, shown)?;
     let count = hand_out(&rt, &mut heap)?;
     println!(rt, "{count} clauses handed out")
