@@ -1,3 +1,5 @@
+#![tactic(auto)]
+
 // The promise over a heap's whole life. The function does nothing; what it says is its contract.
 ghost use Rattle.account.specs.Account.{Promise};
 

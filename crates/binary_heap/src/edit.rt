@@ -35,8 +35,8 @@ impl<'a, T: Element> BinaryHeap<'a, T> {
 
     // Sifts the front down; answers where it then stands, 0 on an empty row.
     fn settle(&mut self) -> usize
-        ensures heap { held self.new ≡ leave (sift_down ordering (row_of self.old) 0).row (held self.old) }
-        ensures at { result ≡ (sift_down ordering (row_of self.old) 0).at }
+        ensures heap { held self.new ≡ leave (sift_down T.ordering (row_of self.old) 0).row (held self.old) }
+        ensures at { result ≡ (sift_down T.ordering (row_of self.old) 0).at }
         ensures lender { self.new.memory.ghost_name ≡ self.old.memory.ghost_name }
     {
         self.settle_laws();
@@ -74,8 +74,8 @@ impl<'a, T: Element> PeekMut<'a, T> {
     }
 
     pub fn refresh(&mut self) -> bool
-        ensures edit { edited self.new ≡ refreshed ordering (edited self.old) }
-        ensures answer { result ≡ refresh_answer ordering (edited self.old) }
+        ensures edit { edited self.new ≡ refreshed T.ordering (edited self.old) }
+        ensures answer { result ≡ refresh_answer T.ordering (edited self.old) }
         ensures lender { self.new.heap.memory.ghost_name ≡ self.old.heap.memory.ghost_name }
     {
         self.close_laws();
@@ -87,7 +87,7 @@ impl<'a, T: Element> PeekMut<'a, T> {
     }
 
     pub fn close(self) -> BinaryHeap<'a, T>
-        ensures heap { held result ≡ settled ordering (edited self.entry) }
+        ensures heap { held result ≡ settled T.ordering (edited self.entry) }
         ensures lender { result.memory.ghost_name ≡ self.entry.heap.memory.ghost_name }
     {
         self.close_laws();
@@ -101,7 +101,7 @@ impl<'a, T: Element> PeekMut<'a, T> {
 
     // Writes the front into `place`, if there is one, and into `wrote` whether it did.
     pub fn pop(self, place: &mut T, wrote: &mut bool) -> BinaryHeap<'a, T>
-        ensures heap { held result ≡ popped ordering (edited self.entry).heap }
+        ensures heap { held result ≡ popped T.ordering (edited self.entry).heap }
         ensures place { place.new ≡ place_after (edited self.entry).heap.row place.old }
         ensures wrote { wrote.new ≡ mark_after (edited self.entry).heap.row }
         ensures lender { result.memory.ghost_name ≡ self.entry.heap.memory.ghost_name }
@@ -123,6 +123,6 @@ impl<'a, T: Element> PeekMut<'a, T> {
     {}
 
     fn close_laws(&self)
-        ensures { Closes ordering self.now.heap.memory.now self.now.heap.len self.now.exposed }
+        ensures { Closes T.ordering self.now.heap.memory.now self.now.heap.len self.now.exposed }
     {}
 }

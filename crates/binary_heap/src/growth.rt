@@ -14,9 +14,9 @@ use supplies::supply::Supply;
 
 impl<'a, T: Element> BinaryHeap<'a, T> {
     pub fn extend<S: Supply<T>>(&mut self, supply: &mut S) -> Result<usize, HeapFault>
-        ensures heap { held self.new ≡ extended ordering (rest supply.old) (held self.old) }
-        ensures answer { told refuses_heap result ≡ extend_answer (rest supply.old) (held self.old) }
-        ensures supply { rest supply.new ≡ drop (taken (rest supply.old) (held self.old)) (rest supply.old) }
+        ensures heap { held self.new ≡ extended T.ordering (S.rest supply.old) (held self.old) }
+        ensures answer { told refuses_heap result ≡ extend_answer (S.rest supply.old) (held self.old) }
+        ensures supply { S.rest supply.new ≡ drop (taken (S.rest supply.old) (held self.old)) (S.rest supply.old) }
         ensures lender { self.new.memory.ghost_name ≡ self.old.memory.ghost_name }
     {
         self.extend_laws(supply);
@@ -29,9 +29,9 @@ impl<'a, T: Element> BinaryHeap<'a, T> {
 
     // Takes in what the supply has, while a place is free; answers how many.
     fn take_in<S: Supply<T>>(&mut self, supply: &mut S) -> usize
-        ensures heap { held self.new ≡ extended ordering (rest supply.old) (held self.old) }
-        ensures count { result ≡ taken (rest supply.old) (held self.old) }
-        ensures supply { rest supply.new ≡ drop result (rest supply.old) }
+        ensures heap { held self.new ≡ extended T.ordering (S.rest supply.old) (held self.old) }
+        ensures count { result ≡ taken (S.rest supply.old) (held self.old) }
+        ensures supply { S.rest supply.new ≡ drop result (S.rest supply.old) }
         ensures lender { self.new.memory.ghost_name ≡ self.old.memory.ghost_name }
     {
         let start = self.len();
@@ -43,7 +43,7 @@ impl<'a, T: Element> BinaryHeap<'a, T> {
     }
 
     pub fn append(&mut self, other: &mut BinaryHeap<'_, T>) -> Result<(), HeapFault>
-        ensures heap { held self.new ≡ appended ordering (held self.old) (held other.old) }
+        ensures heap { held self.new ≡ appended T.ordering (held self.old) (held other.old) }
         ensures other { held other.new ≡ appended_from (held self.old) (held other.old) }
         ensures answer { told refuses_heap result ≡ append_answer (held self.old) (held other.old) }
         ensures lender { self.new.memory.ghost_name ≡ self.old.memory.ghost_name }
@@ -63,7 +63,7 @@ impl<'a, T: Element> BinaryHeap<'a, T> {
     // Joins this heap's row to the row of `ours` elements at the front of `row`, which has places for both.
     fn append_to(&self, row: &mut [T], ours: usize)
         requires { length row.old ≡ ours + length (row_of self.now) }
-        ensures { row.new ≡ appended_row ordering (take ours row.old) (row_of self.now) }
+        ensures { row.new ≡ appended_row T.ordering (take ours row.old) (row_of self.now) }
     {
         let theirs = self.len();
         let memory: &[T] = self.memory;
@@ -72,7 +72,7 @@ impl<'a, T: Element> BinaryHeap<'a, T> {
     }
 
     pub fn adopt(&mut self, n: usize) -> Result<(), HeapFault>
-        ensures heap { held self.new ≡ adopted ordering n (held self.old) }
+        ensures heap { held self.new ≡ adopted T.ordering n (held self.old) }
         ensures answer { told refuses_heap result ≡ adopt_answer n (held self.old) }
         ensures lender { self.new.memory.ghost_name ≡ self.old.memory.ghost_name }
     {
@@ -91,9 +91,9 @@ impl<'a, T: Element> BinaryHeap<'a, T> {
 // Puts what the supply has behind the row of `start` elements, while a place is free, and takes it in; answers how many.
 fn extend_places<T: Element, S: Supply<T>>(places: &mut [T], start: usize, supply: &mut S) -> usize
     requires { start ≤ length places.old }
-    ensures count { result ≡ min (length places.old - start) (length (rest supply.old)) }
-    ensures places { places.new ≡ extended_row ordering (take start places.old) (take result (rest supply.old)) ++ drop (start + result) places.old }
-    ensures supply { rest supply.new ≡ drop result (rest supply.old) }
+    ensures count { result ≡ min (length places.old - start) (length (S.rest supply.old)) }
+    ensures places { places.new ≡ extended_row T.ordering (take start places.old) (take result (S.rest supply.old)) ++ drop (start + result) places.old }
+    ensures supply { S.rest supply.new ≡ drop result (S.rest supply.old) }
 {
     let end = places.len();
     let count = fill(&mut places[start..end], supply);

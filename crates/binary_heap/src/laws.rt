@@ -25,11 +25,11 @@ impl<'a, T: Element> BinaryHeap<'a, T> {
     {}
 
     pub(crate) fn push_laws(&self, x: T)
-        ensures { Pushes ordering self.now.memory.now self.now.len x }
+        ensures { Pushes T.ordering self.now.memory.now self.now.len x }
     {}
 
     pub(crate) fn pop_laws(&self)
-        ensures { Pops ordering self.now.memory.now self.now.len }
+        ensures { Pops T.ordering self.now.memory.now self.now.len }
     {}
 
     pub(crate) fn drain_laws(&self, room: usize)
@@ -37,22 +37,22 @@ impl<'a, T: Element> BinaryHeap<'a, T> {
     {}
 
     pub(crate) fn adopt_laws(&self, n: usize)
-        ensures { Adopts ordering self.now.memory.now self.now.len n }
+        ensures { Adopts T.ordering self.now.memory.now self.now.len n }
     {}
 
     pub(crate) fn append_laws(&self, other: &BinaryHeap<'_, T>)
-        ensures { Appends ordering self.now.memory.now other.now.memory.now self.now.len other.now.len }
+        ensures { Appends T.ordering self.now.memory.now other.now.memory.now self.now.len other.now.len }
     {}
 
     pub(crate) fn extend_laws<S: Supply<T>>(&self, supply: &S)
-        ensures { Extends ordering self.now.memory.now self.now.len (rest supply.now) }
+        ensures { Extends T.ordering self.now.memory.now self.now.len (S.rest supply.now) }
     {}
 
     pub(crate) fn retain_laws<K: Keeper<T>>(&self, keeper: &K)
-        ensures { Retains ordering step (holds keeper.now) self.now.memory.now self.now.len }
+        ensures { Retains T.ordering K.step (K.holds keeper.now) self.now.memory.now self.now.len }
     {}
 
     pub(crate) fn settle_laws(&self)
-        ensures { Settles ordering self.now.memory.now self.now.len }
+        ensures { Settles T.ordering self.now.memory.now self.now.len }
     {}
 }

@@ -1,3 +1,5 @@
+#![tactic(auto)]
+
 ghost use Rattle.std.specs.Prelude.{◌≡◌, ◌+◌, ◌-◌, ◌<◌, ◌≤◌, length, Some, None, MatchOption, MatchResult, ◌==◌, slice_index_or, slice_set};
 ghost use Rattle.account.specs.Account.{Promise};
 ghost use Rattle.elements.specs.Refusals.{told};
@@ -28,7 +30,7 @@ pub struct BinaryHeap<'a, T> {
 impl<'a, T: Element> BinaryHeap<'a, T> {
     pub fn new(memory: &'a mut [T]) -> BinaryHeap<'a, T>
         ensures heap { held result ≡ empty_on memory.old }
-        ensures promise { Promise ordering }
+        ensures promise { Promise T.ordering }
         ensures lender { result.memory.ghost_name ≡ memory.entry.ghost_name }
     {
         promise_holds::<T>();
@@ -91,7 +93,7 @@ impl<'a, T: Element> BinaryHeap<'a, T> {
     }
 
     pub fn push(&mut self, x: T) -> Result<(), HeapFault>
-        ensures heap { held self.new ≡ pushed ordering x (held self.old) }
+        ensures heap { held self.new ≡ pushed T.ordering x (held self.old) }
         ensures answer { told refuses_heap result ≡ push_answer (held self.old) }
         ensures lender { self.new.memory.ghost_name ≡ self.old.memory.ghost_name }
     {
@@ -105,7 +107,7 @@ impl<'a, T: Element> BinaryHeap<'a, T> {
     }
 
     pub fn pop(&mut self) -> Option<T>
-        ensures heap { held self.new ≡ popped ordering (held self.old) }
+        ensures heap { held self.new ≡ popped T.ordering (held self.old) }
         ensures answer { result ≡ pop_answer (held self.old) }
         ensures lender { self.new.memory.ghost_name ≡ self.old.memory.ghost_name }
     {
@@ -130,7 +132,7 @@ fn places_of(size: usize) -> usize
 // Writes x at the end of the row and sifts it up.
 fn put_last<T: Element>(row: &mut [T], x: T)
     requires { 0 < length row.old }
-    ensures { row.new ≡ (sift_up ordering (slice_set row.old (length row.old - 1) x) 0 (length row.old - 1)).row }
+    ensures { row.new ≡ (sift_up T.ordering (slice_set row.old (length row.old - 1) x) 0 (length row.old - 1)).row }
 {
     let at = row.len() - 1;
     row[at] = x;
@@ -141,7 +143,7 @@ fn put_last<T: Element>(row: &mut [T], x: T)
 fn take_front<T: Element>(row: &mut [T]) -> T
     requires { 0 < length row.old }
     ensures front { result ≡ slice_index_or row.old 0 result }
-    ensures row { (d : T) → row.new ≡ front_taken ordering d row.old }
+    ensures row { (d : T) → row.new ≡ front_taken T.ordering d row.old }
 {
     let first = row[0];
     let end = row.len() - 1;

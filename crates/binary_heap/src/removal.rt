@@ -18,9 +18,9 @@ use rows::rebuild::rebuild_tail;
 
 impl<'a, T: Element> BinaryHeap<'a, T> {
     pub fn pop_if<K: Keeper<T>>(&mut self, keeper: &mut K) -> Option<T>
-        ensures heap { held self.new ≡ popped_if ordering (asked step (holds keeper.old) []) (held self.old) }
-        ensures answer { result ≡ pop_if_answer (asked step (holds keeper.old) []) (held self.old) }
-        ensures keeper { holds keeper.new ≡ holds_on step (holds keeper.old) (front (row_of self.old)) }
+        ensures heap { held self.new ≡ popped_if T.ordering (asked K.step (K.holds keeper.old) []) (held self.old) }
+        ensures answer { result ≡ pop_if_answer (asked K.step (K.holds keeper.old) []) (held self.old) }
+        ensures keeper { K.holds keeper.new ≡ holds_on K.step (K.holds keeper.old) (front (row_of self.old)) }
         ensures lender { self.new.memory.ghost_name ≡ self.old.memory.ghost_name }
     {
         let Some(x) = self.peek() else {
@@ -31,8 +31,8 @@ impl<'a, T: Element> BinaryHeap<'a, T> {
     }
 
     pub fn retain<K: Keeper<T>>(&mut self, keeper: &mut K)
-        ensures heap { held self.new ≡ retained ordering (asked step (holds keeper.old)) (held self.old) }
-        ensures keeper { holds keeper.new ≡ holds_through step (holds keeper.old) (row_of self.old) }
+        ensures heap { held self.new ≡ retained T.ordering (asked K.step (K.holds keeper.old)) (held self.old) }
+        ensures keeper { K.holds keeper.new ≡ holds_through K.step (K.holds keeper.old) (row_of self.old) }
         ensures lender { self.new.memory.ghost_name ≡ self.old.memory.ghost_name }
     {
         self.retain_laws(keeper);
@@ -77,9 +77,9 @@ impl<'a, T: Element> BinaryHeap<'a, T> {
 
 // Drops what the keeper says no to; answers how many stay.
 fn retain_row<T: Element, K: Keeper<T>>(row: &mut [T], keeper: &mut K) -> usize
-    ensures count { result ≡ (closed step (holds keeper.old) row.old 0 (length row.old) row.old).count }
-    ensures row { row.new ≡ tail_taken ordering (closed step (holds keeper.old) row.old 0 (length row.old) row.old) (length row.old) }
-    ensures keeper { holds keeper.new ≡ (closed step (holds keeper.old) row.old 0 (length row.old) row.old).holds }
+    ensures count { result ≡ (closed K.step (K.holds keeper.old) row.old 0 (length row.old) row.old).count }
+    ensures row { row.new ≡ tail_taken T.ordering (closed K.step (K.holds keeper.old) row.old 0 (length row.old) row.old) (length row.old) }
+    ensures keeper { K.holds keeper.new ≡ (closed K.step (K.holds keeper.old) row.old 0 (length row.old) row.old).holds }
 {
     let closed = close_up(row, keeper);
     let count = closed.count;

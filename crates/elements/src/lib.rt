@@ -1,3 +1,5 @@
+#![tactic(auto)]
+
 pub mod clause;
 pub mod element;
 pub mod refusal;

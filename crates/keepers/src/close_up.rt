@@ -12,10 +12,10 @@ pub struct Closed {
 
 // Puts each element of the row to the keeper, in order, and moves those with a yes to its front.
 pub fn close_up<T: Copy, K: Keeper<T>>(row: &mut [T], keeper: &mut K) -> Closed
-    ensures count { result.count ≡ (closed step (holds keeper.old) row.old 0 (length row.old) row.old).count }
-    ensures first { result.first ≡ (closed step (holds keeper.old) row.old 0 (length row.old) row.old).first }
-    ensures row { row.new ≡ (closed step (holds keeper.old) row.old 0 (length row.old) row.old).row }
-    ensures holds { holds keeper.new ≡ (closed step (holds keeper.old) row.old 0 (length row.old) row.old).holds }
+    ensures count { result.count ≡ (closed K.step (K.holds keeper.old) row.old 0 (length row.old) row.old).count }
+    ensures first { result.first ≡ (closed K.step (K.holds keeper.old) row.old 0 (length row.old) row.old).first }
+    ensures row { row.new ≡ (closed K.step (K.holds keeper.old) row.old 0 (length row.old) row.old).row }
+    ensures holds { K.holds keeper.new ≡ (closed K.step (K.holds keeper.old) row.old 0 (length row.old) row.old).holds }
     ensures within { result.count ≤ length row.old }
 {
     let mut count = 0;

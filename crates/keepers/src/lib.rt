@@ -1,3 +1,5 @@
+#![tactic(auto)]
+
 pub mod ceiling;
 pub mod close_up;
 pub mod keeper;

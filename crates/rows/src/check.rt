@@ -6,7 +6,7 @@ use elements::element::{Element, exceeds};
 
 // Reads any list as a row; none where it is a heap.
 pub fn first_out_of_order<T: Element>(list: &[T]) -> Option<usize>
-    ensures { MatchOption result (Heaped ordering list.now) (λ p. FirstOutOfOrder ordering list.now p) }
+    ensures { MatchOption result (Heaped T.ordering list.now) (λ p. FirstOutOfOrder T.ordering list.now p) }
 {
     if list.len() < 2 {
         return None;

@@ -29,7 +29,7 @@ fn better_to_rebuild(start: usize, len: usize) -> bool
 
 // Makes a heap of any row.
 pub fn rebuild<T: Element>(row: &mut [T])
-    ensures { row.new ≡ rebuilt ordering row.old }
+    ensures { row.new ≡ rebuilt T.ordering row.old }
 {
     let mut n = row.len() / 2;
     'downs: while n > 0 {
@@ -40,7 +40,7 @@ pub fn rebuild<T: Element>(row: &mut [T])
 
 fn sift_up_each<T: Element>(row: &mut [T], start: usize)
     requires { start ≤ length row.old }
-    ensures { row.new ≡ sift_ups ordering (length row.old - start) row.old start }
+    ensures { row.new ≡ sift_ups T.ordering (length row.old - start) row.old start }
 {
     'ups: for i in start..row.len() {
         sift_up(row, 0, i);
@@ -49,7 +49,7 @@ fn sift_up_each<T: Element>(row: &mut [T], start: usize)
 
 // Makes a heap of a row whose first `start` elements are one, in the cheaper of two ways.
 pub fn rebuild_tail<T: Element>(row: &mut [T], start: usize)
-    ensures { row.new ≡ tail_rebuilt ordering start row.old }
+    ensures { row.new ≡ tail_rebuilt T.ordering start row.old }
 {
     let len = row.len();
     if start >= len {

@@ -7,8 +7,8 @@ use elements::element::{Element, exceeds, is_below};
 // `start`, and puts it back; answers where.
 pub fn sift_up<T: Element>(row: &mut [T], start: usize, pos: usize) -> usize
     requires { pos < length row.old }
-    ensures row { row.new ≡ (sift_up ordering row.old start pos).row }
-    ensures at { result ≡ (sift_up ordering row.old start pos).at }
+    ensures row { row.new ≡ (sift_up T.ordering row.old start pos).row }
+    ensures at { result ≡ (sift_up T.ordering row.old start pos).at }
 {
     let value = row[pos];
     let mut hole = pos;
@@ -31,7 +31,7 @@ pub fn sift_up<T: Element>(row: &mut [T], start: usize, pos: usize) -> usize
 // The child of `p` that is to move up: the right one, unless the left exceeds it or is the only one.
 fn greater_child<T: Element>(row: &[T], p: usize) -> usize
     requires { p < length row.now / 2 }
-    ensures child { (d : T) → result ≡ greater_child ordering d row.now p }
+    ensures child { (d : T) → result ≡ greater_child T.ordering d row.now p }
     ensures within { (p < result) × (result < length row.now) }
 {
     let left = 2 * p + 1;
@@ -50,8 +50,8 @@ fn greater_child<T: Element>(row: &[T], p: usize) -> usize
 // it, and puts the value back; answers where.
 pub fn sift_down<T: Element>(row: &mut [T], pos: usize) -> usize
     requires { pos < length row.old }
-    ensures row { row.new ≡ (sift_down ordering row.old pos).row }
-    ensures at { result ≡ (sift_down ordering row.old pos).at }
+    ensures row { row.new ≡ (sift_down T.ordering row.old pos).row }
+    ensures at { result ≡ (sift_down T.ordering row.old pos).at }
 {
     let value = row[pos];
     let mut hole = pos;
@@ -74,8 +74,8 @@ pub fn sift_down<T: Element>(row: &mut [T], pos: usize) -> usize
 // As `sift_down`, down to a leaf whatever the value is.
 fn sift_to_leaf<T: Element>(row: &mut [T], pos: usize) -> usize
     requires { pos < length row.old }
-    ensures row { row.new ≡ (sift_to_leaf ordering row.old pos).row }
-    ensures at { result ≡ (sift_to_leaf ordering row.old pos).at }
+    ensures row { row.new ≡ (sift_to_leaf T.ordering row.old pos).row }
+    ensures at { result ≡ (sift_to_leaf T.ordering row.old pos).at }
     ensures within { result < length row.old }
 {
     let value = row[pos];
@@ -96,8 +96,8 @@ fn sift_to_leaf<T: Element>(row: &mut [T], pos: usize) -> usize
 // comparisons than `sift_down` for a value that belongs near a leaf, as a row's last does.
 pub fn sift_down_to_bottom<T: Element>(row: &mut [T], pos: usize) -> usize
     requires { pos < length row.old }
-    ensures row { row.new ≡ (sift_down_to_bottom ordering row.old pos).row }
-    ensures at { result ≡ (sift_down_to_bottom ordering row.old pos).at }
+    ensures row { row.new ≡ (sift_down_to_bottom T.ordering row.old pos).row }
+    ensures at { result ≡ (sift_down_to_bottom T.ordering row.old pos).at }
 {
     let leaf = sift_to_leaf(row, pos);
     sift_up(row, pos, leaf)

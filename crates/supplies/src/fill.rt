@@ -5,9 +5,9 @@ use crate::supply::Supply;
 
 // Writes what the supply has into the places, from the first on, while both last; answers how many.
 pub fn fill<T: Copy, S: Supply<T>>(places: &mut [T], supply: &mut S) -> usize
-    ensures count { result ≡ (filled (length places.old) 0 places.old (rest supply.old)).count }
-    ensures places { places.new ≡ (filled (length places.old) 0 places.old (rest supply.old)).places }
-    ensures rest { rest supply.new ≡ (filled (length places.old) 0 places.old (rest supply.old)).rest }
+    ensures count { result ≡ (filled (length places.old) 0 places.old (S.rest supply.old)).count }
+    ensures places { places.new ≡ (filled (length places.old) 0 places.old (S.rest supply.old)).places }
+    ensures rest { S.rest supply.new ≡ (filled (length places.old) 0 places.old (S.rest supply.old)).rest }
     ensures within { result ≤ length places.old }
 {
     let free = places.len();

@@ -3,4 +3,4 @@ use Rattle.account.proofs.Living.{promised}
 use Rattle.account.proofs.promise_holds.Goals as goal
 
 pub returns : goal.returns
-returns g c = let met = g.met.T.Element in promised _ (accounted _ (record { reflexive = met.reflexive; converse = met.converse; transitive = met.transitive }))
+returns g c = promised _ (accounted _ g.met.T.Element.laws.lawful)

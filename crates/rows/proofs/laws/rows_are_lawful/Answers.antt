@@ -2,6 +2,4 @@ use Rattle.rows.proofs.Stands.{rearranges, puts_in_order}
 use Rattle.rows.proofs.laws.rows_are_lawful.Goals as goal
 
 pub returns : goal.returns
-returns g c =
-    let met = g.met.T.Element in
-    record { bag = rearranges _; order = puts_in_order _ (record { reflexive = met.reflexive; converse = met.converse; transitive = met.transitive }) }
+returns g c = record { bag = rearranges _; order = puts_in_order _ g.met.T.Element.laws.lawful }
