@@ -2,9 +2,9 @@ use Rattle.std.proofs.Common.{◌∙◌, rules}
 use Rattle.heap_model.proofs.Passing.{passed_on}
 use Rattle.binary_heap.proofs.BinaryHeap.push.Goals as goal
 
-pub returns-in-err-try-reserve : goal.returns-in-err-try-reserve
-returns-in-err-try-reserve g c = record {
+pub returns-in_err-try_reserve : goal.returns-in_err-try_reserve
+returns-in_err-try_reserve g c = record {
   heap = search rules;
-  answer = passed_on _ _ _ c.from-residual.ensures.1 (c.in-err-try-reserve.ensures.answer ∙ c.push-laws.ensures.answer);
+  answer = passed_on _ _ _ c.from_residual.ensures.1 (c.in_err-try_reserve.ensures.answer ∙ c.push_laws.ensures.answer);
   lender = search rules;
 }

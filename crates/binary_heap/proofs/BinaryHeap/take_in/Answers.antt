@@ -6,7 +6,7 @@ pub returns : goal.returns
 returns g c =
     let rest = g.S.Supply.rest c.args.supply.now in
     let laws = extends g.T.Element.ordering c.args.self.now.memory.now c.args.self.now.len rest in
-    let e = c.extend-places-count in
+    let e = c.extend_places-count in
     let end = c.capacity-end.result in
     let k : end - 0 ≡ end = omega arith in
     let t = laws.count (end - 0) c.len-start.result e.result (k ∙ c.capacity-end.ensures) c.len-start.ensures.is e.ensures.count in

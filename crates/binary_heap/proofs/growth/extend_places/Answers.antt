@@ -15,7 +15,7 @@ returns g c =
     record {
       count = t;
       places =
-          places_are all start rest c.requires j refl f.new.places f.ensures.places _ c.rebuild-tail.new.row (start + f.result - 0) (k ∙ ap (λ n. start + n) t) c.rebuild-tail.ensures
+          places_are all start rest c.requires j refl f.new.places f.ensures.places _ c.rebuild_tail.new.row (start + f.result - 0) (k ∙ ap (λ n. start + n) t) c.rebuild_tail.ensures
           ∙ ap (λ n. extended_row g.T.Element.ordering (take start all) (take n rest) ++ drop (start + n) all) (sym t);
       supply = f.ensures.rest ∙ rest_is all start rest c.requires j refl ∙ ap (λ n. drop n rest) (sym t);
     }
