@@ -9,7 +9,7 @@ use Rattle.std.specs.List.{ContainsAt as Has, AllByRecursion as All}
 use Rattle.elements.specs.Orders.{exceeds, below, Lawful}
 use Rattle.elements.specs.Refusals.{by, by_with}
 use Rattle.elements.specs.Refusals.Answer.{accepted, refused}
-use Rattle.keepers.specs.Keeps.{kept, dropped}
+use Rattle.keepers.specs.Keeps.{dropped}
 use Rattle.keepers.proofs.Kept.{kept_few}
 use Rattle.rows.specs.Sifts.{parent, sift_down}
 use Rattle.rows.specs.Rebuilds.{rebuilt}

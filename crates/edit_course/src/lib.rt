@@ -1,5 +1,7 @@
 // The course of an edit: opened, set, closed, and then the heap again. The files in refused/ turn one
 // line of it into a call that the build must turn down.
+#![tactic(auto)]
+
 ghost use Rattle.std.specs.Prelude.{◌≡◌, length};
 
 use binary_heap::BinaryHeap;

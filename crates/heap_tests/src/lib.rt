@@ -1,5 +1,7 @@
 // The heap's calls at their limits: no memory, one place, full, more memory than places, equal
 // ranks, nested kinds, refusals that change nothing.
+#![tactic(auto)]
+
 #[cfg(test)]
 mod tests {
     use binary_heap::BinaryHeap;

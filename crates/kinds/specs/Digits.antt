@@ -1,6 +1,6 @@
 -- A number and its bytes come back from each other.
 use Rattle.std.specs.Prelude.{◌≡◌, ℕ, zero, suc, ◌+◌, ◌*◌, ◌/◌, ◌%◌, ◌^◌, ◌<◌, ◌≤◌, List, [], ◌∷◌, ◌++◌, length, take, drop, slice_index_or, refl}
-use Rattle.std.proofs.Common.{sym, ap, ap₂, subst, ◌∙◌, append_assoc, add_comm, mul_assoc, mul_comm, pow-suc, mod-lt, mod-eq_of_lt, arith}
+use Rattle.std.proofs.Common.{sym, ap, ap₂, subst, ◌∙◌, append_assoc, add_comm, mul_assoc, mul_comm, pow-suc, mod-eq_of_lt, arith}
 use Rattle.std.proofs.Math.Nat.{one-le-pow, add-mul-div_right, mul-add-mod_self_right}
 use Rattle.std.proofs.Math.Arith.{digits_lt, digits_div, mod-mul}
 use Rattle.std.specs.List.{AllByRecursion as All}

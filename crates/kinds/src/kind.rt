@@ -189,15 +189,15 @@ impl Kind for (Clause, Reverse<u64>) {
 }
 
 pub fn width_of<K: Kind>() -> usize
-    ensures is { result ≡ codec.width }
+    ensures is { result ≡ K.codec.width }
     ensures narrow { (0 < result) × (result ≤ 16) }
-    ensures laws { Faithful codec }
+    ensures laws { Faithful K.codec }
 {
     K::WIDTH.count()
 }
 
 pub fn mark_of<K: Kind>() -> [u8; 2]
-    ensures { result ≡ codec.mark }
+    ensures { result ≡ K.codec.mark }
 {
     K::MARK.letters()
 }

@@ -1,6 +1,8 @@
 // A morning on the dock: the standing clauses are taken in, others arrive, the one in front is shown
 // as it changes, those above a rank are withdrawn, the front is corrected, and at the end all are
 // handed out.
+#![tactic(auto)]
+
 ghost use Rattle.std.specs.Prelude.{◌≡◌, not, [], length, IfOk, ◌==◌};
 ghost use Rattle.elements.specs.Clauses.{made, refuses_clause, by_rank};
 ghost use Rattle.elements.specs.Refusals.{told};

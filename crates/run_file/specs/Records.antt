@@ -7,12 +7,12 @@ use Rattle.run_file.specs.declared.record.Record.TheVariants.{Push, Pop, Peek, P
 pub data Asked : Type 0 where
   PU : List ℕ → Asked
   PO : Asked
-  ParamKind : Asked
+  PK : Asked
   PI : List ℕ → Asked
   EX : ℕ → List ℕ → Asked
   RP : ℕ → List ℕ → Asked
   RE : List ℕ → Asked
-  Ra : ℕ → Asked
+  RA : ℕ → Asked
   AP : Asked
   SW : Asked
   CL : Asked
@@ -27,12 +27,12 @@ pub data Asked : Type 0 where
 abbrev pub asked : Record → Asked
 asked (Push e) = PU e.now
 asked Pop = PO
-asked Peek = ParamKind
+asked Peek = PK
 asked (PopIf e) = PI e.now
 asked (Extend n es) = EX n es.now
 asked (Repeat n e) = RP n e.now
 asked (Retain e) = RE e.now
-asked (Ration n) = Ra n
+asked (Ration n) = RA n
 asked Append = AP
 asked Swap = SW
 asked Clear = CL

@@ -1,12 +1,12 @@
 -- The row at the front of a list: by a drain, and copied place by place.
-use Rattle.std.proofs.Common.{◌≡◌, ℕ, ◌+◌, ◌<◌, ◌≤◌, Bool, true, false, cond, leb, List, [], ◌∷◌, ◌++◌, length, get_or, take, drop, set, Some, None, Option, sym, refl, ap, ◌∙◌, arith}
-use Rattle.std.proofs.lemmas.List.{take_at, take_all, take_more, take_more_set, drop_more}
+use Rattle.std.proofs.Common.{◌≡◌, ℕ, ◌+◌, ◌<◌, ◌≤◌, Bool, true, false, cond, leb, List, [], ◌∷◌, ◌++◌, length, get_or, take, drop, set, Some, None, sym, ap, ◌∙◌, arith}
+use Rattle.std.proofs.lemmas.List.{take_at, take_more, take_more_set, drop_more}
 use Rattle.std.proofs.lemmas.Bool.{le-leb, lt-leb, cond-true, cond-false}
-use Rattle.elements.specs.Refusals.{Answer, by}
+use Rattle.elements.specs.Refusals.{by}
 use Rattle.elements.specs.Refusals.Answer.{accepted, refused}
 use Rattle.heap_model.specs.Held.{Held}
 use Rattle.heap_model.specs.Calls.{front, item_at, drain_answer, drained_to}
-use Rattle.run_lines.specs.Replies.{Said, listed}
+use Rattle.run_lines.specs.Replies.{listed}
 use Rattle.run_step.specs.Steps.{as_list}
 
 module _ {X : Type 0} where

@@ -1,5 +1,5 @@
 -- Both heaps of a run live by the account, through every record.
-use Rattle.std.proofs.Common.{◌≡◌, ℕ, List, length, Ordering, sym, refl, subst}
+use Rattle.std.proofs.Common.{◌≡◌, ℕ, List, length, Ordering, refl, subst}
 use Rattle.elements.specs.Refusals.{Answer}
 use Rattle.elements.specs.Refusals.Answer.{accepted, refused}
 use Rattle.heap_model.specs.Held.{Held}
@@ -10,7 +10,7 @@ use Rattle.account.specs.Lives.Call.{push, pop, pop_if, extend, adopt, append, a
 use Rattle.account.specs.Account.{Lived, Promise}
 use Rattle.kinds.specs.Codecs.{Codec}
 use Rattle.run_file.specs.Records.{Asked}
-use Rattle.run_step.specs.States.{InUse, resting, edit, Both, in_phase}
+use Rattle.run_step.specs.States.{InUse, resting, edit, in_phase}
 use Rattle.run_step.specs.Steps.{Deed, looks, calls, appends, changes, at_rest, in_edit, leaves, stepped}
 use Rattle.run_step.specs.Lives.{Books, phase_of, edited_of, entered, booked, BothLived, BothPromised}
 

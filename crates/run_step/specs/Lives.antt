@@ -1,5 +1,5 @@
 -- The account of both heaps of a run.
-use Rattle.std.specs.Prelude.{ℕ, List, [], ◌++◌, length}
+use Rattle.std.specs.Prelude.{ℕ, List, [], ◌++◌}
 use Rattle.std.specs.declared.cmp.Ordering.{Ordering}
 use Rattle.elements.specs.Refusals.{Answer}
 use Rattle.elements.specs.Refusals.Answer.{accepted, refused}

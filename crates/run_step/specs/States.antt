@@ -3,7 +3,7 @@ use Rattle.std.specs.Prelude.{List, Ok, Err, Result}
 use Rattle.elements.specs.Refusals.{Answer}
 use Rattle.elements.specs.Refusals.Answer.{accepted, refused}
 use Rattle.heap_model.specs.Held.{Held, empty_on}
-use Rattle.heap_model.specs.Edits.{Edited, opened}
+use Rattle.heap_model.specs.Edits.{Edited}
 use Rattle.account.specs.Lives.{Phase}
 use Rattle.account.specs.Lives.Phase.{shut, editing}
 use Rattle.binary_heap.specs.Heaps.{held}

@@ -13,7 +13,7 @@ use Rattle.account.specs.Lives.{Phase, Call, effect}
 use Rattle.account.specs.Lives.Phase.{shut, editing}
 use Rattle.account.specs.Lives.Call.{push, pop, pop_if, extend, retain, drain, clear, peek_mut, «set», refresh, close, edit_pop}
 use Rattle.kinds.specs.Codecs.{Codec, then}
-use Rattle.run_file.specs.Records.{Asked, PU, PO, ParamKind, PI, EX, RP, RE, Ra, AP, SW, CL, DR, RW, PM, SE, RF, EP, EC}
+use Rattle.run_file.specs.Records.{Asked, PU, PO, PK, PI, EX, RP, RE, RA, AP, SW, CL, DR, RW, PM, SE, RF, EP, EC}
 use Rattle.run_lines.specs.declared.reply.Reply.{Reply}
 use Rattle.run_lines.specs.Replies.{Said, done, gave, counted, moved, listed}
 use Rattle.run_step.specs.declared.fault.RecordFault.{RecordFault}
@@ -53,12 +53,12 @@ module _ {X : Type 0} (ordering : X → X → Ordering) (codec : Codec X) (room 
   abbrev pub at_rest : Asked → Answer (Deed X shut)
   at_rest (PU e) = with_element e (λ x. calls (push x) (λ s. only_done (push_answer s.heap)))
   at_rest PO = accepted (calls pop (λ s. accepted (gave (pop_answer s.heap))))
-  at_rest ParamKind = accepted (looks (λ s. accepted (gave (front s.heap.row))))
+  at_rest PK = accepted (looks (λ s. accepted (gave (front s.heap.row))))
   at_rest (PI e) = with_element e (λ x. calls (pop_if (says (ceiling_step ordering) x [])) (λ s. accepted (gave (pop_if_answer (says (ceiling_step ordering) x []) s.heap))))
   at_rest (EX n es) = refused (by 11)
   at_rest (RP n e) = with_element e (λ x. calls (extend (replicate n x)) (λ s. as_count (extend_answer (replicate n x) s.heap)))
   at_rest (RE e) = with_element e (λ x. calls (retain (says (ceiling_step ordering) x)) (λ s. accepted done))
-  at_rest (Ra n) = accepted (calls (retain (says ration_step n)) (λ s. accepted done))
+  at_rest (RA n) = accepted (calls (retain (says ration_step n)) (λ s. accepted done))
   at_rest AP = accepted appends
   at_rest SW = accepted changes
   at_rest CL = accepted (calls clear (λ s. accepted done))
@@ -73,12 +73,12 @@ module _ {X : Type 0} (ordering : X → X → Ordering) (codec : Codec X) (room 
   abbrev pub in_edit : Asked → Answer (Deed X editing)
   in_edit (PU e) = refused (by 10)
   in_edit PO = refused (by 10)
-  in_edit ParamKind = accepted (looks (λ s. accepted (gave (front s.heap.row))))
+  in_edit PK = accepted (looks (λ s. accepted (gave (front s.heap.row))))
   in_edit (PI e) = refused (by 10)
   in_edit (EX n es) = refused (by 10)
   in_edit (RP n e) = refused (by 10)
   in_edit (RE e) = refused (by 10)
-  in_edit (Ra n) = refused (by 10)
+  in_edit (RA n) = refused (by 10)
   in_edit AP = refused (by 10)
   in_edit SW = refused (by 10)
   in_edit CL = refused (by 10)

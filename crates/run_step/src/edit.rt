@@ -2,7 +2,7 @@
 ghost use Rattle.std.specs.Prelude.{◌≡◌};
 ghost use Rattle.binary_heap.specs.Edits.{edited};
 ghost use Rattle.binary_heap.specs.Heaps.{held};
-ghost use Rattle.run_file.specs.Records.{ParamKind, SE, RF, EP, EC};
+ghost use Rattle.run_file.specs.Records.{PK, SE, RF, EP, EC};
 ghost use Rattle.run_step.specs.States.{edit as in_edit};
 ghost use Rattle.run_step.specs.Steps.{Steps, Acts};
 
@@ -14,7 +14,7 @@ use kinds::kind::Kind;
 use run_lines::reply::Reply;
 
 pub(crate) fn peek<'a, K: Kind>(edit: PeekMut<'a, K>, other: BinaryHeap<'a, K>) -> Stepped<'a, K>
-    ensures { Steps K.Element.ordering codec (in_edit (edited edit.entry)) (held other.entry) ParamKind result }
+    ensures { Steps K.Element.ordering K.codec (in_edit (edited edit.entry)) (held other.entry) PK result }
 {
     let answer = Ok(Reply::Element(edit.peek().copied()));
     Stepped {
@@ -27,7 +27,7 @@ pub(crate) fn peek<'a, K: Kind>(edit: PeekMut<'a, K>, other: BinaryHeap<'a, K>) 
 }
 
 pub(crate) fn refresh<'a, K: Kind>(edit: PeekMut<'a, K>, other: BinaryHeap<'a, K>) -> Stepped<'a, K>
-    ensures { Steps K.Element.ordering codec (in_edit (edited edit.entry)) (held other.entry) RF result }
+    ensures { Steps K.Element.ordering K.codec (in_edit (edited edit.entry)) (held other.entry) RF result }
 {
     let mut edit = edit;
     let answer = Ok(Reply::Moved(edit.refresh()));
@@ -41,7 +41,7 @@ pub(crate) fn refresh<'a, K: Kind>(edit: PeekMut<'a, K>, other: BinaryHeap<'a, K
 }
 
 pub(crate) fn pop<'a, K: Kind>(edit: PeekMut<'a, K>, other: BinaryHeap<'a, K>) -> Stepped<'a, K>
-    ensures { Steps K.Element.ordering codec (in_edit (edited edit.entry)) (held other.entry) EP result }
+    ensures { Steps K.Element.ordering K.codec (in_edit (edited edit.entry)) (held other.entry) EP result }
 {
     let mut place = K::blank();
     let mut wrote = false;
@@ -57,7 +57,7 @@ pub(crate) fn pop<'a, K: Kind>(edit: PeekMut<'a, K>, other: BinaryHeap<'a, K>) -
 }
 
 pub(crate) fn close<'a, K: Kind>(edit: PeekMut<'a, K>, other: BinaryHeap<'a, K>) -> Stepped<'a, K>
-    ensures { Steps K.Element.ordering codec (in_edit (edited edit.entry)) (held other.entry) EC result }
+    ensures { Steps K.Element.ordering K.codec (in_edit (edited edit.entry)) (held other.entry) EC result }
 {
     Stepped {
         heaps: Heaps {
@@ -73,7 +73,7 @@ pub(crate) fn set<'a, K: Kind>(
     other: BinaryHeap<'a, K>,
     bytes: &[u8],
 ) -> Stepped<'a, K>
-    ensures { Steps K.Element.ordering codec (in_edit (edited edit.entry)) (held other.entry) (SE bytes.now) result }
+    ensures { Steps K.Element.ordering K.codec (in_edit (edited edit.entry)) (held other.entry) (SE bytes.now) result }
 {
     let mut edit = edit;
     let answer = set_element(&mut edit, bytes);
@@ -87,7 +87,7 @@ pub(crate) fn set<'a, K: Kind>(
 }
 
 fn set_element<K: Kind>(edit: &mut PeekMut<'_, K>, bytes: &[u8]) -> Result<Reply<K>, RecordFault>
-    ensures { Acts K.Element.ordering codec (in_edit (edited edit.old)) (in_edit (edited edit.new)) (SE bytes.now) result }
+    ensures { Acts K.Element.ordering K.codec (in_edit (edited edit.old)) (in_edit (edited edit.new)) (SE bytes.now) result }
 {
     edit.set(K::decode(bytes)?)?;
     Ok(Reply::Done)

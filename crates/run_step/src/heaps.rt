@@ -32,7 +32,7 @@ pub struct Stepped<'a, T> {
 impl<'a, K: Kind> Heaps<'a, K> {
     pub fn new(first: &'a mut [K], second: &'a mut [K]) -> Heaps<'a, K>
         ensures heaps { both result ≡ begun first.old second.old }
-        ensures promise { (room : ℕ) → BothPromised K.Element.ordering codec room }
+        ensures promise { (room : ℕ) → BothPromised K.Element.ordering K.codec room }
     {
         Heaps {
             state: State::Closed(BinaryHeap::new(first)),

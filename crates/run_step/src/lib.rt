@@ -1,3 +1,5 @@
+#![tactic(auto)]
+
 mod edit;
 pub mod fault;
 pub mod heaps;

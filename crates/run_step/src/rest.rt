@@ -2,7 +2,7 @@
 ghost use Rattle.std.specs.Prelude.{◌≡◌, ◌≤◌, length};
 ghost use Rattle.heap_model.specs.Calls.{drained, drain_answer};
 ghost use Rattle.binary_heap.specs.Heaps.{held, row_of};
-ghost use Rattle.run_file.specs.Records.{PU, PO, ParamKind, PI, EX, RP, RE, Ra, AP, SW, CL, DR, RW, PM};
+ghost use Rattle.run_file.specs.Records.{PU, PO, PK, PI, EX, RP, RE, RA, AP, SW, CL, DR, RW, PM};
 ghost use Rattle.run_step.specs.States.{resting, told_of};
 ghost use Rattle.run_step.specs.Steps.{StepsInto, Steps, Acts, as_list};
 
@@ -21,7 +21,7 @@ pub(crate) fn push<'a, K: Kind>(
     other: BinaryHeap<'a, K>,
     bytes: &[u8],
 ) -> Stepped<'a, K>
-    ensures { Steps K.Element.ordering codec (resting (held heap.entry)) (held other.entry) (PU bytes.now) result }
+    ensures { Steps K.Element.ordering K.codec (resting (held heap.entry)) (held other.entry) (PU bytes.now) result }
 {
     let mut heap = heap;
     let answer = push_element(&mut heap, bytes);
@@ -38,14 +38,14 @@ fn push_element<K: Kind>(
     heap: &mut BinaryHeap<'_, K>,
     bytes: &[u8],
 ) -> Result<Reply<K>, RecordFault>
-    ensures { Acts K.Element.ordering codec (resting (held heap.old)) (resting (held heap.new)) (PU bytes.now) result }
+    ensures { Acts K.Element.ordering K.codec (resting (held heap.old)) (resting (held heap.new)) (PU bytes.now) result }
 {
     heap.push(K::decode(bytes)?)?;
     Ok(Reply::Done)
 }
 
 pub(crate) fn pop<'a, K: Kind>(heap: BinaryHeap<'a, K>, other: BinaryHeap<'a, K>) -> Stepped<'a, K>
-    ensures { Steps K.Element.ordering codec (resting (held heap.entry)) (held other.entry) PO result }
+    ensures { Steps K.Element.ordering K.codec (resting (held heap.entry)) (held other.entry) PO result }
 {
     let mut heap = heap;
     let answer = Ok(Reply::Element(heap.pop()));
@@ -59,7 +59,7 @@ pub(crate) fn pop<'a, K: Kind>(heap: BinaryHeap<'a, K>, other: BinaryHeap<'a, K>
 }
 
 pub(crate) fn peek<'a, K: Kind>(heap: BinaryHeap<'a, K>, other: BinaryHeap<'a, K>) -> Stepped<'a, K>
-    ensures { Steps K.Element.ordering codec (resting (held heap.entry)) (held other.entry) ParamKind result }
+    ensures { Steps K.Element.ordering K.codec (resting (held heap.entry)) (held other.entry) PK result }
 {
     let answer = Ok(Reply::Element(heap.peek().copied()));
     Stepped {
@@ -76,7 +76,7 @@ pub(crate) fn pop_if<'a, K: Kind>(
     other: BinaryHeap<'a, K>,
     bytes: &[u8],
 ) -> Stepped<'a, K>
-    ensures { Steps K.Element.ordering codec (resting (held heap.entry)) (held other.entry) (PI bytes.now) result }
+    ensures { Steps K.Element.ordering K.codec (resting (held heap.entry)) (held other.entry) (PI bytes.now) result }
 {
     let mut heap = heap;
     let answer = pop_if_below(&mut heap, bytes);
@@ -93,7 +93,7 @@ fn pop_if_below<K: Kind>(
     heap: &mut BinaryHeap<'_, K>,
     bytes: &[u8],
 ) -> Result<Reply<K>, RecordFault>
-    ensures { Acts K.Element.ordering codec (resting (held heap.old)) (resting (held heap.new)) (PI bytes.now) result }
+    ensures { Acts K.Element.ordering K.codec (resting (held heap.old)) (resting (held heap.new)) (PI bytes.now) result }
 {
     let mut ceiling = Ceiling::new(K::decode(bytes)?);
     Ok(Reply::Element(heap.pop_if(&mut ceiling)))
@@ -105,7 +105,7 @@ pub(crate) fn repeat<'a, K: Kind>(
     count: u16,
     bytes: &[u8],
 ) -> Stepped<'a, K>
-    ensures { Steps K.Element.ordering codec (resting (held heap.entry)) (held other.entry) (RP count bytes.now) result }
+    ensures { Steps K.Element.ordering K.codec (resting (held heap.entry)) (held other.entry) (RP count bytes.now) result }
 {
     let mut heap = heap;
     let answer = extend_by_one(&mut heap, count, bytes);
@@ -123,7 +123,7 @@ fn extend_by_one<K: Kind>(
     count: u16,
     bytes: &[u8],
 ) -> Result<Reply<K>, RecordFault>
-    ensures { Acts K.Element.ordering codec (resting (held heap.old)) (resting (held heap.new)) (RP count bytes.now) result }
+    ensures { Acts K.Element.ordering K.codec (resting (held heap.old)) (resting (held heap.new)) (RP count bytes.now) result }
 {
     let mut supply = Repeat::new(K::decode(bytes)?, count as usize);
     let taken = heap.extend(&mut supply)?;
@@ -135,7 +135,7 @@ pub(crate) fn retain<'a, K: Kind>(
     other: BinaryHeap<'a, K>,
     bytes: &[u8],
 ) -> Stepped<'a, K>
-    ensures { Steps K.Element.ordering codec (resting (held heap.entry)) (held other.entry) (RE bytes.now) result }
+    ensures { Steps K.Element.ordering K.codec (resting (held heap.entry)) (held other.entry) (RE bytes.now) result }
 {
     let mut heap = heap;
     let answer = retain_below(&mut heap, bytes);
@@ -152,7 +152,7 @@ fn retain_below<K: Kind>(
     heap: &mut BinaryHeap<'_, K>,
     bytes: &[u8],
 ) -> Result<Reply<K>, RecordFault>
-    ensures { Acts K.Element.ordering codec (resting (held heap.old)) (resting (held heap.new)) (RE bytes.now) result }
+    ensures { Acts K.Element.ordering K.codec (resting (held heap.old)) (resting (held heap.new)) (RE bytes.now) result }
 {
     heap.retain(&mut Ceiling::new(K::decode(bytes)?));
     Ok(Reply::Done)
@@ -163,7 +163,7 @@ pub(crate) fn ration<'a, K: Kind>(
     other: BinaryHeap<'a, K>,
     count: u16,
 ) -> Stepped<'a, K>
-    ensures { Steps K.Element.ordering codec (resting (held heap.entry)) (held other.entry) (Ra count) result }
+    ensures { Steps K.Element.ordering K.codec (resting (held heap.entry)) (held other.entry) (RA count) result }
 {
     let mut heap = heap;
     heap.retain(&mut Ration::new(count as usize));
@@ -181,7 +181,7 @@ pub(crate) fn clear<'a, K: Kind>(
     heap: BinaryHeap<'a, K>,
     other: BinaryHeap<'a, K>,
 ) -> Stepped<'a, K>
-    ensures { Steps K.Element.ordering codec (resting (held heap.entry)) (held other.entry) CL result }
+    ensures { Steps K.Element.ordering K.codec (resting (held heap.entry)) (held other.entry) CL result }
 {
     let mut heap = heap;
     heap.clear();
@@ -196,7 +196,7 @@ pub(crate) fn clear<'a, K: Kind>(
 }
 
 pub(crate) fn swap<'a, K: Kind>(heap: BinaryHeap<'a, K>, other: BinaryHeap<'a, K>) -> Stepped<'a, K>
-    ensures { Steps K.Element.ordering codec (resting (held heap.entry)) (held other.entry) SW result }
+    ensures { Steps K.Element.ordering K.codec (resting (held heap.entry)) (held other.entry) SW result }
 {
     Stepped {
         heaps: Heaps {
@@ -211,7 +211,7 @@ pub(crate) fn peek_mut<'a, K: Kind>(
     heap: BinaryHeap<'a, K>,
     other: BinaryHeap<'a, K>,
 ) -> Stepped<'a, K>
-    ensures { Steps K.Element.ordering codec (resting (held heap.entry)) (held other.entry) PM result }
+    ensures { Steps K.Element.ordering K.codec (resting (held heap.entry)) (held other.entry) PM result }
 {
     Stepped {
         heaps: Heaps {
@@ -226,7 +226,7 @@ pub(crate) fn append<'a, K: Kind>(
     heap: BinaryHeap<'a, K>,
     other: BinaryHeap<'a, K>,
 ) -> Stepped<'a, K>
-    ensures { Steps K.Element.ordering codec (resting (held heap.entry)) (held other.entry) AP result }
+    ensures { Steps K.Element.ordering K.codec (resting (held heap.entry)) (held other.entry) AP result }
 {
     let mut heap = heap;
     let mut other = other;
@@ -248,7 +248,7 @@ pub(crate) fn drain<'a, K: Kind>(
     other: BinaryHeap<'a, K>,
     list: &mut [K],
 ) -> Stepped<'a, K>
-    ensures { StepsInto K.Element.ordering codec list.new (resting (held heap.entry)) (held other.entry) DR result }
+    ensures { StepsInto K.Element.ordering K.codec list.new (resting (held heap.entry)) (held other.entry) DR result }
 {
     let mut heap = heap;
     let answer = drain_to(&mut heap, list);
@@ -274,7 +274,7 @@ pub(crate) fn row<'a, K: Kind>(
     other: BinaryHeap<'a, K>,
     list: &mut [K],
 ) -> Stepped<'a, K>
-    ensures { StepsInto K.Element.ordering codec list.new (resting (held heap.entry)) (held other.entry) RW result }
+    ensures { StepsInto K.Element.ordering K.codec list.new (resting (held heap.entry)) (held other.entry) RW result }
 {
     let answer = list_row(&heap, list);
     Stepped {
@@ -315,7 +315,7 @@ pub(crate) fn extend<'a, K: Kind>(
     count: u16,
     bytes: &[u8],
 ) -> Stepped<'a, K>
-    ensures { Steps K.Element.ordering codec (resting (held heap.entry)) (held other.entry) (EX count bytes.now) result }
+    ensures { Steps K.Element.ordering K.codec (resting (held heap.entry)) (held other.entry) (EX count bytes.now) result }
 {
     let answer = Err(RecordFault::NoEdit);
     Stepped {

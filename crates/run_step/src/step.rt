@@ -11,7 +11,7 @@ use run_file::record::Record;
 
 // Carries a record out, or refuses it. Elements that it answers are put at the front of the list.
 pub fn step<'a, K: Kind>(heaps: Heaps<'a, K>, record: Record<'_>, list: &mut [K]) -> Stepped<'a, K>
-    ensures { StepsInto K.Element.ordering codec list.new (in_use_of heaps.entry.state) (held heaps.entry.other) (asked «record».entry) result }
+    ensures { StepsInto K.Element.ordering K.codec list.new (in_use_of heaps.entry.state) (held heaps.entry.other) (asked «record».entry) result }
 {
     let Heaps { state, other } = heaps;
     match (state, record) {

@@ -11,5 +11,5 @@ out-preserved c = omega (arith, one_fewer by_rank _ _ _ c.pop.ensures.heap c.in-
 
 pub returns : goal.returns
 returns c =
-    let none = none_left by_rank _ _ c.pop.ensures.heap c.in-default.ensures.answer in
+    let none = none_left by_rank _ _ c.pop.ensures.heap c.in_default.ensures.answer in
     (omega (arith, none.0), none.1)

@@ -1,4 +1,3 @@
-use Rattle.std.proofs.Common.{arith}
 use Rattle.binary_heap.specs.Heaps.{held}
 use Rattle.run_step.proofs.Listing.{row_told, row_refused}
 use Rattle.run_step.proofs.rest.list_row.Goals as goal
@@ -7,4 +6,4 @@ pub returns-then-list-count : goal.returns-then-list-count
 returns-then-list-count g c = row_refused (held c.args.heap.now) _ _ c.len-count.ensures.is c.if-list-count.true
 
 pub returns : goal.returns
-returns g c = row_told (held c.args.heap.now) c.copy-row.new.list _ _ _ c.len-count.ensures.is c.if-list-count.false c.copy-row.ensures
+returns g c = row_told (held c.args.heap.now) c.copy_row.new.list _ _ _ c.len-count.ensures.is c.if-list-count.false c.copy_row.ensures
