@@ -3,9 +3,9 @@ use Rattle.std.proofs.Common.{◌≡◌, ℕ, suc, ◌+◌, ◌-◌, ◌<◌, �
 use mathlib.Core.List.Permᴰ
 use mathlib.Core.List.{Perm}
 use Rattle.std.proofs.lemmas.Bool.{or_parts, leb-true, leb-false, ltb-false}
-use Rattle.std.proofs.ByRecursion.{All-weaker}
+use Rattle.std.proofs.lemmas.List.Elements.{All-nil, All-cons, All-head, All-tail, All-weaker}
 use Rattle.std.specs.Ordering.{is_gt, is_lt, ordering_reverse}
-use Rattle.std.specs.List.{ContainsAt as Has, AllByRecursion as All}
+use Rattle.std.specs.Prelude.{All, Contains}
 use Rattle.elements.specs.Orders.{exceeds, below, Lawful}
 use Rattle.elements.specs.Refusals.{by, by_with}
 use Rattle.elements.specs.Refusals.Answer.{accepted, refused}
@@ -69,7 +69,7 @@ module _ {X : Type 0} (ordering : X → X → Ordering) (size : ℕ) where
   high level x = not (below ordering x level)
 
   abbrev Best : List X → X → Type 0
-  Best row x = Has row x × All (λ y. exceeds ordering y x ≡ false) row
+  Best row x = Contains row x × All (λ y. exceeds ordering y x ≡ false) row
 
   -- what each call owes
   record Fine (q : Phase) (row : List X) (e : Effect X) : Type 0 where
@@ -95,18 +95,21 @@ module _ {X : Type 0} (ordering : X → X → Ordering) (size : ℕ) where
   still : (q : Phase) (t : Edited X) → Good q t → Kept t.heap → Fine q t.heap.row (moving [] [] t)
   still q t g k = moves_fine q t.heap.row [] [] t (mathlib.Core.List.Perm.refl t.heap.row) g k
 
+  abbrev Low : X → X → Type 0
+  Low level x = below ordering x level ≡ true
+
   none_high : (level : X) (xs : List X) → AllBelow ordering level xs → times (high level) xs ≡ 0
   none_high level [] h = refl
-  none_high level (x ∷ xs) h = rw h.0 (none_high level xs h.1)
+  none_high level (x ∷ xs) h = rw (All-head (Low level) x xs h) (none_high level xs (All-tail (Low level) x xs h))
 
   all_low : (level : X) (xs : List X) → times (high level) xs ≤ 0 → AllBelow ordering level xs
-  all_low level [] h = tt
+  all_low level [] h = All-nil (Low level)
   all_low level (x ∷ xs) h = split (below ordering x level) refl h (λ l. all_low level xs l)
     where
       split : (b : Bool) → below ordering x level ≡ b → cond (not b) (suc (times (high level) xs)) (times (high level) xs) ≤ 0
           → (times (high level) xs ≤ 0 → AllBelow ordering level xs)
-          → (below ordering x level ≡ true) × AllBelow ordering level xs
-      split true e l k = (e, k l)
+          → AllBelow ordering level (x ∷ xs)
+      split true e l k = All-cons (Low level) x xs e (k l)
       split false e l k = absurd (omega arith)
 
   empty : Heaped ordering []
@@ -123,7 +126,7 @@ module _ {X : Type 0} (ordering : X → X → Ordering) (size : ℕ) where
     first_owed level x xs h = split (below ordering x level) refl
       where
         split : (b : Bool) → below ordering x level ≡ b → (cond (not b) (suc (times (high level) xs)) (times (high level) xs) ≤ 0) ⊎ (1 ≤ cond (not b) 1 0)
-        split true e = inl (let z : times (high level) xs ≡ 0 = none_high level xs (All-weaker (λ y. exceeds ordering y x ≡ false) (λ y. below ordering y level ≡ true) (λ y k. low_under ordering lawful level x y k e) xs (firsts x xs h).1) in omega arith)
+        split true e = inl (let z : times (high level) xs ≡ 0 = none_high level xs (All-weaker (λ y. exceeds ordering y x ≡ false) (λ y. below ordering y level ≡ true) (λ y k. low_under ordering lawful level x y k e) xs (All-tail (λ y. exceeds ordering y x ≡ false) x xs (firsts x xs h))) in omega arith)
         split false e = inr (omega arith)
 
     pop_kept : (h : Held X) → Kept h → Kept (popped ordering h)
@@ -149,7 +152,7 @@ module _ {X : Type 0} (ordering : X → X → Ordering) (size : ℕ) where
       balance = popped_all (x ∷ xs);
       good = popped_heap ordering lawful (x ∷ xs) (loosened (x ∷ xs) h);
       owed = λ level. first_owed level x xs h;
-      best = λ y e. subst (Best (x ∷ xs)) {x = x} {y = y} (cc) ((0, omega arith, λ d. refl), firsts x xs h);
+      best = λ y e. subst (Best (x ∷ xs)) {x = x} {y = y} (cc) ((0, omega arith, refl), firsts x xs h);
       kept = pop_kept (record { row = x ∷ xs; memory = memory }) k;
     }
 

@@ -5,7 +5,8 @@ use mathlib.Core.List.Perm
 use mathlib.Core.List.Permᴰ
 use mathlib.Core.List.{Perm, Permᴰ}
 use native.Mathlib.Nat.{ℕ_set}
-use Rattle.std.specs.List.{AllByRecursion as All}
+use Rattle.std.proofs.lemmas.List.Elements.{All-nil, All-cons, All-head, All-tail}
+use Rattle.std.specs.Prelude.{All}
 use Rattle.account.specs.Account.{times}
 
 times_cons : {X : Type 0} (f : X → Bool) (a b : X) (xs ys : List X) → a ≡ b → times f xs ≡ times f ys → times f (a ∷ xs) ≡ times f (b ∷ ys)
@@ -44,12 +45,12 @@ in_turn i₁ i₂ o₁ o₂ a b c h k =
     (rw (append_assoc o₁ i₂ b, append_assoc o₁ o₂ c) (Perm.append_left o₁ k))))))
 
 pub all_first : {X : Type 0} (P : X → Type 0) (xs ys : List X) → All P (xs ++ ys) → All P xs
-all_first P [] ys h = tt
-all_first P (x ∷ xs) ys h = (h.0, all_first P xs ys h.1)
+all_first P [] ys h = All-nil P
+all_first P (x ∷ xs) ys h = All-cons P x xs (All-head P x (xs ++ ys) h) (all_first P xs ys (All-tail P x (xs ++ ys) h))
 
 pub all_second : {X : Type 0} (P : X → Type 0) (xs ys : List X) → All P (xs ++ ys) → All P ys
 all_second P [] ys h = h
-all_second P (x ∷ xs) ys h = all_second P xs ys h.1
+all_second P (x ∷ xs) ys h = all_second P xs ys (All-tail P x (xs ++ ys) h)
 
 pub perm_cancel : {X : Type 0} (g xs ys : List X) → Perm (g ++ xs) (g ++ ys) → Perm xs ys
 perm_cancel [] xs ys h = h

@@ -1,8 +1,7 @@
 -- The account of a heap over its whole life.
-use Rattle.std.specs.Prelude.{◌≡◌, ℕ, suc, ◌+◌, ◌≤◌, Bool, true, false, cond, not, ◌↔◌, List, [], ◌∷◌, ◌++◌, length, Some, None}
+use Rattle.std.specs.Prelude.{◌≡◌, ℕ, suc, ◌+◌, ◌≤◌, Bool, true, false, cond, not, ◌↔◌, List, [], ◌∷◌, ◌++◌, length, Some, None, All, Contains}
 use Rattle.std.specs.declared.cmp.Ordering.{Ordering}
 use mathlib.Core.List.{Perm}
-use Rattle.std.specs.List.{ContainsAt as Has, AllByRecursion as All}
 use Rattle.elements.specs.Orders.{exceeds, below}
 use Rattle.rows.specs.Heaps.{Heaped}
 use Rattle.heap_model.specs.Held.{Held, places_of}
@@ -32,7 +31,7 @@ module _ {X : Type 0} (ordering : X → X → Ordering) where
     -- so held, what came in less what went out, is the row, in whatever order it is told
     pub held : (xs : List X) → Perm came (gone ++ xs) ↔ Perm xs s.heap.row
     -- whatever the heap's pop or pop_if hands out next was held, and nothing held exceeds it
-    pub best : (q : Phase) (c : Call X p q) (x : X) → (effect ordering c s).hands ≡ Some x → Has s.heap.row x × All (λ y. exceeds ordering y x ≡ false) s.heap.row
+    pub best : (q : Phase) (c : Call X p q) (x : X) → (effect ordering c s).hands ≡ Some x → Contains s.heap.row x × All (λ y. exceeds ordering y x ≡ false) s.heap.row
     -- pop answers none exactly when as many had gone out as come in
     pub pop_none : (pop_answer s.heap ≡ None) ↔ (length gone ≡ length came)
     -- pop_if answers none exactly when pop would, or when the keeper says no to what pop would answer

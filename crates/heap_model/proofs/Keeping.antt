@@ -4,8 +4,8 @@ use mathlib.Core.List.Permᴰ
 use mathlib.Core.List.{Perm, perm_middle, perm_append_singleton}
 use Rattle.std.proofs.lemmas.Bool.{cond_both, ltb-false}
 use Rattle.std.proofs.lemmas.List.{get_or_append_left}
-use Rattle.std.proofs.ByRecursion.{All-from_get_or}
-use Rattle.std.specs.List.{AllByRecursion as All}
+use Rattle.std.proofs.lemmas.List.Elements.{All-from_get_or}
+use Rattle.std.specs.Prelude.{All}
 use Rattle.elements.specs.Orders.{exceeds, Lawful}
 use Rattle.keepers.specs.Keeps.{kept, dropped, first_no}
 use Rattle.keepers.proofs.Kept.{kept_few, kept_all, first_few}

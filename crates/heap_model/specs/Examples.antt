@@ -1,6 +1,5 @@
 -- Examples with known rows.
-use Rattle.std.specs.Prelude.{◌≡◌, ℕ, ◌-◌, Bool, true, false, List, [], ◌∷◌, ◌++◌, map, replicate, Some}
-use Rattle.std.specs.List.{AllByRecursion as All}
+use Rattle.std.specs.Prelude.{◌≡◌, ℕ, ◌-◌, Bool, true, false, List, [], ◌∷◌, ◌++◌, map, replicate, Some, All}
 use Rattle.elements.specs.declared.clause.Clause.{Clause}
 use Rattle.elements.specs.Clauses.{by_rank}
 use Rattle.elements.specs.Orders.{by_size}

@@ -1,7 +1,6 @@
 -- The element kinds of a run file, each by its mark, its width in bytes, and what its bytes mean.
-use Rattle.std.specs.Prelude.{◌≡◌, ℕ, ◌^◌, ◌<◌, ◌≤◌, Bool, true, cond, ◌&&◌, List, [], ◌∷◌, ◌++◌, length, take, drop, nat_le, nat_lt}
+use Rattle.std.specs.Prelude.{◌≡◌, ℕ, ◌^◌, ◌<◌, ◌≤◌, Bool, true, cond, ◌&&◌, List, [], ◌∷◌, ◌++◌, length, take, drop, nat_le, nat_lt, All}
 use Rattle.std.specs.declared.cmp.Reverse.{Reverse}
-use Rattle.std.specs.List.{AllByRecursion as All}
 use Rattle.elements.specs.declared.clause.Clause.{Clause}
 use Rattle.elements.specs.Clauses.{made}
 use Rattle.elements.specs.Refusals.{Answer, by}
