@@ -65,10 +65,10 @@ module _ {X : Type 0} (was their : List X) (len len' n m : ℕ) (e : n ≡ lengt
         ∙ sym (cond-true _ _ _ (fit l))
 
 -- the other row, in the first k elements of its memory, joined to ours
-pub row_of : {X : Type 0} (ordering : X → X → Ordering) (their : List X) (len m k : ℕ) (ours row out : List X) (at : ℕ) → m ≡ length (held_of their len).row → out ≡ tail_rebuilt ordering at row → row ≡ joined ours (take k their) → at ≡ second ours (take k their) → k ≡ m
+pub row_of_lem : {X : Type 0} (ordering : X → X → Ordering) (their : List X) (len m k : ℕ) (ours row out : List X) (at : ℕ) → m ≡ length (held_of their len).row → out ≡ tail_rebuilt ordering at row → row ≡ joined ours (take k their) → at ≡ second ours (take k their) → k ≡ m
     → out ≡ appended_row ordering ours (held_of their len).row
 unfolding appended_row
-row_of ordering their len m k ours row out at e is r s km =
+row_of_lem ordering their len m k ours row out at e is r s km =
     is ∙ ap (tail_rebuilt ordering at) r ∙ ap (λ i. tail_rebuilt ordering i (joined ours (take k their))) s
     ∙ ap (λ i. tail_rebuilt ordering (second ours (take i their)) (joined ours (take i their))) (km ∙ e ∙ row_long their len)
 

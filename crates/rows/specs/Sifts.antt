@@ -1,5 +1,5 @@
 -- The three sifts, as functions of a row and a position.
-use Rattle.std.specs.Prelude.{ℕ, zero, suc, ◌+◌, ◌-◌, ◌*◌, ◌/◌, Bool, true, cond, List, [], ◌∷◌, length, get_or, nat_le, nat_lt, slice_index_or, slice_set}
+use Rattle.std.specs.Prelude.{ℕ, zero, suc, ◌+◌, ◌-◌, ◌*◌, ◌/◌, Bool, true, cond, List, [], ◌∷◌, length, nat_le, nat_lt, slice_index_or, slice_set}
 use Rattle.std.specs.declared.cmp.Ordering.{Ordering}
 use Rattle.elements.specs.Orders.{exceeds, below}
 
@@ -20,7 +20,7 @@ module _ {X : Type 0} (ordering : X → X → Ordering) where
   unfoldable pub rise : ℕ → ℕ → X → List X → ℕ → Sifted X
   rise zero start x row hole = put x row hole
   rise (suc fuel) start x row hole =
-      let above : X = get_or row (parent hole) x in
+      let above : X = slice_index_or row (parent hole) x in
       cond (nat_le hole start) (put x row hole)
       (cond (exceeds ordering x above) (rise fuel start x (slice_set row hole above) (parent hole)) (put x row hole))
 
