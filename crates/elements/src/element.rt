@@ -18,57 +18,25 @@ pub trait Element: Ord + Copy {
 impl Element for u64 {
     ghost ordering = { by_size };
 
-    ghost laws = { record {
-      cmp = Prim.search rules;
-      partial = Prim.search rules;
-      lawful = record {
-        reflexive = Prim.search rules;
-        converse = Prim.search rules;
-        transitive = Prim.search rules;
-      };
-    } };
+    ghost laws = { Prim.search rules };
 }
 
 impl Element for Clause {
     ghost ordering = { by_rank };
 
-    ghost laws = { record {
-      cmp = Prim.search rules;
-      partial = Prim.search rules;
-      lawful = record {
-        reflexive = Prim.search rules;
-        converse = Prim.search rules;
-        transitive = Prim.search rules;
-      };
-    } };
+    ghost laws = { Prim.search rules };
 }
 
 impl<T: Element> Element for Reverse<T> {
     ghost ordering = { λ x y. T.Element.ordering y.0 x.0 };
 
-    ghost laws = { record {
-      cmp = Prim.search rules;
-      partial = Prim.search rules;
-      lawful = record {
-        reflexive = Prim.search rules;
-        converse = Prim.search rules;
-        transitive = Prim.search rules;
-      };
-    } };
+    ghost laws = { Prim.search rules };
 }
 
 impl<A: Element, B: Element> Element for (A, B) {
     ghost ordering = { λ x y. ordering_then (A.Element.ordering x.0 y.0) (B.Element.ordering x.1 y.1) };
 
-    ghost laws = { record {
-      cmp = Prim.search rules;
-      partial = Prim.search rules;
-      lawful = record {
-        reflexive = Prim.search rules;
-        converse = Prim.search rules;
-        transitive = Prim.search rules;
-      };
-    } };
+    ghost laws = { Prim.search rules };
 }
 
 pub fn exceeds<T: Element>(x: &T, y: &T) -> bool
