@@ -1,4 +1,4 @@
-ghost use Rattle.std.specs.Prelude.{◌≡◌, ◌<◌, ◌≤◌, slice_index};
+ghost use Rattle.std.specs.Prelude.{◌≡◌, ℕ, ◌<◌, ◌≤◌, List, [], ◌∷◌, slice_index};
 ghost use Rattle.elements.specs.Refusals.{told};
 ghost use Rattle.kinds.specs.Codecs.{Codec, Faithful, number_codec, clause_codec, reversed_codec, pair_codec};
 ghost use Rattle.kinds.specs.Faults.{refuses_element};
@@ -6,20 +6,19 @@ ghost use Rattle.kinds.specs.Codings.{number_faithful, clause_faithful, reversed
 ghost use Rattle.std.proofs.Common.{rules};
 
 use crate::fault::ElementFault;
-use crate::stated::{Bytes, Letters, Mark, Stated};
 use elements::clause::Clause;
 use elements::element::Element;
 use std::cmp::Reverse;
 
 // What may stand in a run file: an element with a mark, a width in bytes, and a meaning of bytes.
 pub trait Kind: Element {
-    type Sign: Letters;
+    const MARK: [u8; 2];
 
-    type Size: Stated;
+    const WIDTH: usize;
 
-    const MARK: Self::Sign;
+    ghost MARK: { List ℕ };
 
-    const WIDTH: Self::Size;
+    ghost WIDTH: { ℕ };
 
     ghost codec: { Codec Self };
 
@@ -35,21 +34,27 @@ pub trait Kind: Element {
     fn blank() -> Self
         ensures { result ≡ codec.blank };
 
-    ghost mark: { codec.mark ≡ Self.Sign.Letters.letters };
+    ghost mark: { codec.mark ≡ MARK };
 
-    ghost width: { codec.width ≡ Self.Size.Stated.count };
+    ghost width: { codec.width ≡ WIDTH };
 
     ghost faithful: { Faithful codec };
 }
 
+fn byte_of(bytes: [u8; 8], i: usize) -> u8
+    ensures { result ≡ slice_index bytes i }
+{
+    bytes.get(i).copied().unwrap_or(0)
+}
+
 impl Kind for u64 {
-    type Sign = Mark<b'K', b'N'>;
+    const MARK: [u8; 2] = *b"KN";
 
-    type Size = Bytes<8>;
+    const WIDTH: usize = 8;
 
-    const MARK: Mark<b'K', b'N'> = Mark;
+    ghost MARK = { number_codec.mark };
 
-    const WIDTH: Bytes<8> = Bytes;
+    ghost WIDTH = { 8 };
 
     ghost codec = { number_codec };
 
@@ -60,15 +65,12 @@ impl Kind for u64 {
     ghost faithful = { number_faithful };
 
     fn decode(bytes: &[u8]) -> Result<u64, ElementFault> {
-        let [a, b, c, d, e, f, g, h, ..] = bytes else {
-            return Err(ElementFault::CutShort);
-        };
-        Ok(u64::from_be_bytes([*a, *b, *c, *d, *e, *f, *g, *h]))
+        let first = bytes.first_chunk().ok_or(ElementFault::CutShort)?;
+        Ok(u64::from_be_bytes(*first))
     }
 
     fn byte(&self, i: usize) -> u8 {
-        let bytes = self.to_be_bytes();
-        if i < 8 { bytes[i] } else { 0 }
+        byte_of(self.to_be_bytes(), i)
     }
 
     fn blank() -> u64 {
@@ -77,13 +79,13 @@ impl Kind for u64 {
 }
 
 impl Kind for Clause {
-    type Sign = Mark<b'K', b'C'>;
+    const MARK: [u8; 2] = *b"KC";
 
-    type Size = Bytes<8>;
+    const WIDTH: usize = 8;
 
-    const MARK: Mark<b'K', b'C'> = Mark;
+    ghost MARK = { clause_codec.mark };
 
-    const WIDTH: Bytes<8> = Bytes;
+    ghost WIDTH = { 8 };
 
     ghost codec = { clause_codec };
 
@@ -94,23 +96,19 @@ impl Kind for Clause {
     ghost faithful = { clause_faithful };
 
     fn decode(bytes: &[u8]) -> Result<Clause, ElementFault> {
-        let [a, b, c, d, e, f, g, h, ..] = bytes else {
-            return Err(ElementFault::CutShort);
-        };
-        let clause = Clause::new(
-            u16::from_be_bytes([*a, *b]),
-            u32::from_be_bytes([*c, *d, *e, *f]),
-            u16::from_be_bytes([*g, *h]),
-        )?;
-        Ok(clause)
+        let [a, b, c, d, e, f, g, h] = *bytes.first_chunk::<8>().ok_or(ElementFault::CutShort)?;
+        Ok(Clause::new(
+            u16::from_be_bytes([a, b]),
+            u32::from_be_bytes([c, d, e, f]),
+            u16::from_be_bytes([g, h]),
+        )?)
     }
 
     fn byte(&self, i: usize) -> u8 {
         let [a, b] = self.rank().to_be_bytes();
         let [c, d, e, f] = self.number().to_be_bytes();
         let [g, h] = self.discount().to_be_bytes();
-        let bytes = [a, b, c, d, e, f, g, h];
-        if i < 8 { bytes[i] } else { 0 }
+        byte_of([a, b, c, d, e, f, g, h], i)
     }
 
     fn blank() -> Clause {
@@ -122,13 +120,13 @@ impl Kind for Clause {
 }
 
 impl Kind for Reverse<u64> {
-    type Sign = Mark<b'K', b'R'>;
+    const MARK: [u8; 2] = *b"KR";
 
-    type Size = Bytes<8>;
+    const WIDTH: usize = 8;
 
-    const MARK: Mark<b'K', b'R'> = Mark;
+    ghost MARK = { reversed_codec.mark };
 
-    const WIDTH: Bytes<8> = Bytes;
+    ghost WIDTH = { 8 };
 
     ghost codec = { reversed_codec };
 
@@ -152,13 +150,13 @@ impl Kind for Reverse<u64> {
 }
 
 impl Kind for (Clause, Reverse<u64>) {
-    type Sign = Mark<b'K', b'P'>;
+    const MARK: [u8; 2] = *b"KP";
 
-    type Size = Bytes<16>;
+    const WIDTH: usize = 16;
 
-    const MARK: Mark<b'K', b'P'> = Mark;
+    ghost MARK = { pair_codec.mark };
 
-    const WIDTH: Bytes<16> = Bytes;
+    ghost WIDTH = { 16 };
 
     ghost codec = { pair_codec };
 
@@ -193,11 +191,11 @@ pub fn width_of<K: Kind>() -> usize
     ensures narrow { (0 < result) × (result ≤ 16) }
     ensures laws { Faithful K.codec }
 {
-    K::WIDTH.count()
+    K::WIDTH
 }
 
 pub fn mark_of<K: Kind>() -> [u8; 2]
     ensures { result ≡ K.codec.mark }
 {
-    K::MARK.letters()
+    K::MARK
 }

@@ -2,4 +2,3 @@
 
 pub mod fault;
 pub mod kind;
-pub mod stated;
