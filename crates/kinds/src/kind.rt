@@ -1,9 +1,8 @@
-ghost use Rattle.std.specs.Prelude.{◌≡◌, ℕ, ◌<◌, ◌≤◌, List, [], ◌∷◌, slice_index};
+ghost use Rattle.std.specs.Prelude.{◌≡◌, ℕ, ◌<◌, ◌≤◌, List, [], ◌∷◌, slice_index, refl};
 ghost use Rattle.elements.specs.Refusals.{told};
 ghost use Rattle.kinds.specs.Codecs.{Codec, Faithful, number_codec, clause_codec, reversed_codec, pair_codec};
 ghost use Rattle.kinds.specs.Faults.{refuses_element};
 ghost use Rattle.kinds.specs.Codings.{number_faithful, clause_faithful, reversed_faithful, pair_faithful};
-ghost use Rattle.std.proofs.Common.{rules};
 
 use crate::fault::ElementFault;
 use elements::clause::Clause;
@@ -58,9 +57,9 @@ impl Kind for u64 {
 
     ghost codec = { number_codec };
 
-    ghost mark = { Prim.search rules };
+    ghost mark = { refl };
 
-    ghost width = { Prim.search rules };
+    ghost width = { refl };
 
     ghost faithful = { number_faithful };
 
@@ -89,9 +88,9 @@ impl Kind for Clause {
 
     ghost codec = { clause_codec };
 
-    ghost mark = { Prim.search rules };
+    ghost mark = { refl };
 
-    ghost width = { Prim.search rules };
+    ghost width = { refl };
 
     ghost faithful = { clause_faithful };
 
@@ -112,10 +111,7 @@ impl Kind for Clause {
     }
 
     fn blank() -> Clause {
-        match Clause::new(0, 0, 0) {
-            Ok(clause) => clause,
-            Err(_) => unreachable(),
-        }
+        Clause::new(0, 0, 0).unwrap()
     }
 }
 
@@ -130,9 +126,9 @@ impl Kind for Reverse<u64> {
 
     ghost codec = { reversed_codec };
 
-    ghost mark = { Prim.search rules };
+    ghost mark = { refl };
 
-    ghost width = { Prim.search rules };
+    ghost width = { refl };
 
     ghost faithful = { reversed_faithful };
 
@@ -160,9 +156,9 @@ impl Kind for (Clause, Reverse<u64>) {
 
     ghost codec = { pair_codec };
 
-    ghost mark = { Prim.search rules };
+    ghost mark = { refl };
 
-    ghost width = { Prim.search rules };
+    ghost width = { refl };
 
     ghost faithful = { pair_faithful };
 
