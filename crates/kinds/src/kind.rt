@@ -53,7 +53,7 @@ impl Kind for u64 {
 
     ghost MARK = { number_codec.mark };
 
-    ghost WIDTH = { 8 };
+    ghost WIDTH = { number_codec.width };
 
     ghost codec = { number_codec };
 
@@ -84,7 +84,7 @@ impl Kind for Clause {
 
     ghost MARK = { clause_codec.mark };
 
-    ghost WIDTH = { 8 };
+    ghost WIDTH = { clause_codec.width };
 
     ghost codec = { clause_codec };
 
@@ -122,7 +122,7 @@ impl Kind for Reverse<u64> {
 
     ghost MARK = { reversed_codec.mark };
 
-    ghost WIDTH = { 8 };
+    ghost WIDTH = { reversed_codec.width };
 
     ghost codec = { reversed_codec };
 
@@ -152,7 +152,7 @@ impl Kind for (Clause, Reverse<u64>) {
 
     ghost MARK = { pair_codec.mark };
 
-    ghost WIDTH = { 16 };
+    ghost WIDTH = { pair_codec.width };
 
     ghost codec = { pair_codec };
 
