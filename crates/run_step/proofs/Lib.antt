@@ -1,2 +1,3 @@
+pub mod Acting
 mod Listing
 pub mod Living

@@ -1,6 +1,8 @@
 ghost use Rattle.std.specs.Prelude.{◌≡◌, ℕ};
 ghost use Rattle.run_step.specs.Lives.{BothPromised};
-ghost use Rattle.run_step.specs.States.{both, begun};
+ghost use Rattle.binary_heap.specs.Edits.{edited};
+ghost use Rattle.binary_heap.specs.Heaps.{held};
+ghost use Rattle.run_step.specs.States.{both, begun, resting, edit as editing};
 
 use crate::fault::RecordFault;
 use binary_heap::BinaryHeap;
@@ -38,5 +40,37 @@ impl<'a, K: Kind> Heaps<'a, K> {
             state: State::Closed(BinaryHeap::new(first)),
             other: BinaryHeap::new(second),
         }
+    }
+}
+
+pub(crate) fn at_rest<'a, K: Kind>(
+    answer: Result<Reply<K>, RecordFault>,
+    heap: BinaryHeap<'a, K>,
+    other: BinaryHeap<'a, K>,
+) -> Stepped<'a, K>
+    ensures { result ≡ record { heaps = record { state = State.Closed heap.entry; other = other.entry }; answer = answer } }
+{
+    Stepped {
+        heaps: Heaps {
+            state: State::Closed(heap),
+            other,
+        },
+        answer,
+    }
+}
+
+pub(crate) fn in_edit<'a, K: Kind>(
+    answer: Result<Reply<K>, RecordFault>,
+    edit: PeekMut<'a, K>,
+    other: BinaryHeap<'a, K>,
+) -> Stepped<'a, K>
+    ensures { result ≡ record { heaps = record { state = State.Open edit.entry; other = other.entry }; answer = answer } }
+{
+    Stepped {
+        heaps: Heaps {
+            state: State::Open(edit),
+            other,
+        },
+        answer,
     }
 }

@@ -1,4 +1,0 @@
-use Rattle.run_step.proofs.edit.set.Goals as goal
-
-pub returns : goal.returns
-returns g c = let acts = c.set_element-answer.ensures in record { heaps = λ room. acts.heap room _; answer = λ list. acts.answer list _ }
