@@ -1,3 +1,3 @@
 pub mod Acting
-mod Listing
+pub mod Listing
 pub mod Living

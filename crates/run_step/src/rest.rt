@@ -68,6 +68,7 @@ pub(crate) fn append<K: Kind>(
     Ok(Reply::Done)
 }
 
+#[tactic(auto, using(crate::proofs::Listing::drain_lists))]
 pub(crate) fn drain<K: Kind>(
     heap: &mut BinaryHeap<'_, K>,
     list: &mut [K],
@@ -79,6 +80,7 @@ pub(crate) fn drain<K: Kind>(
 }
 
 // Copies the row to the front of the list.
+#[tactic(auto, using(crate::proofs::Listing::row_told, crate::proofs::Listing::row_refused))]
 pub(crate) fn row<K: Kind>(
     heap: &BinaryHeap<'_, K>,
     list: &mut [K],
@@ -93,6 +95,7 @@ pub(crate) fn row<K: Kind>(
     Ok(Reply::Elements(count))
 }
 
+#[tactic(auto, using(crate::proofs::Listing::item_copied, crate::proofs::Listing::item_there))]
 fn copy_row<K: Kind>(heap: &BinaryHeap<'_, K>, list: &mut [K])
     requires { length list.old ≡ length (row_of heap.now) }
     ensures { list.new ≡ row_of heap.now }
