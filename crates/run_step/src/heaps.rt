@@ -43,11 +43,11 @@ impl<'a, K: Kind> Heaps<'a, K> {
     }
 }
 
-pub(crate) fn at_rest<'a, K: Kind>(
-    answer: Result<Reply<K>, RecordFault>,
-    heap: BinaryHeap<'a, K>,
-    other: BinaryHeap<'a, K>,
-) -> Stepped<'a, K>
+pub(crate) fn at_rest<'a, T>(
+    answer: Result<Reply<T>, RecordFault>,
+    heap: BinaryHeap<'a, T>,
+    other: BinaryHeap<'a, T>,
+) -> Stepped<'a, T>
     ensures { result ≡ record { heaps = record { state = State.Closed heap.entry; other = other.entry }; answer = answer } }
 {
     Stepped {
@@ -59,11 +59,11 @@ pub(crate) fn at_rest<'a, K: Kind>(
     }
 }
 
-pub(crate) fn in_edit<'a, K: Kind>(
-    answer: Result<Reply<K>, RecordFault>,
-    edit: PeekMut<'a, K>,
-    other: BinaryHeap<'a, K>,
-) -> Stepped<'a, K>
+pub(crate) fn in_edit<'a, T>(
+    answer: Result<Reply<T>, RecordFault>,
+    edit: PeekMut<'a, T>,
+    other: BinaryHeap<'a, T>,
+) -> Stepped<'a, T>
     ensures { result ≡ record { heaps = record { state = State.Open edit.entry; other = other.entry }; answer = answer } }
 {
     Stepped {

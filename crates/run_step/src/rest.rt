@@ -68,7 +68,7 @@ pub(crate) fn append<K: Kind>(
     Ok(Reply::Done)
 }
 
-#[tactic(auto, using(crate::proofs::Listing::drain_lists))]
+#[tactic(auto, unfolding(heap_model::specs::Calls::drain_answer, heap_model::specs::Calls::drained_to))]
 pub(crate) fn drain<K: Kind>(
     heap: &mut BinaryHeap<'_, K>,
     list: &mut [K],
@@ -80,7 +80,7 @@ pub(crate) fn drain<K: Kind>(
 }
 
 // Copies the row to the front of the list.
-#[tactic(auto, using(crate::proofs::Listing::row_told, crate::proofs::Listing::row_refused))]
+#[tactic(auto, unfolding(heap_model::specs::Calls::drain_answer))]
 pub(crate) fn row<K: Kind>(
     heap: &BinaryHeap<'_, K>,
     list: &mut [K],
@@ -89,9 +89,9 @@ pub(crate) fn row<K: Kind>(
 {
     let count = heap.len();
     if list.len() < count {
-        return Err(RecordFault::Heap(HeapFault::ShortList));
+        return Err(HeapFault::ShortList.into());
     }
-    copy_row(heap, &mut list[0..count]);
+    copy_row(heap, &mut list[..count]);
     Ok(Reply::Elements(count))
 }
 

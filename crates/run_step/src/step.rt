@@ -3,7 +3,7 @@ ghost use Rattle.run_file.specs.Records.{asked};
 ghost use Rattle.run_step.specs.States.{in_use_of};
 ghost use Rattle.run_step.specs.Steps.{StepsInto};
 
-use crate::edit::{pop, set};
+use crate::edit;
 use crate::fault::RecordFault::{EditOpen, NoEdit};
 use crate::heaps::State::{Closed, Open};
 use crate::heaps::{Heaps, Stepped, at_rest, in_edit};
@@ -24,7 +24,7 @@ pub fn step<'a, K: Kind>(heaps: Heaps<'a, K>, record: Record<'_>, list: &mut [K]
         (Closed(mut heap), Record::Pop) => at_rest(Ok(Element(heap.pop())), heap, other),
         (Closed(heap), Record::Peek) => at_rest(Ok(Element(heap.peek().copied())), heap, other),
         (Closed(mut heap), Record::PopIf(bytes)) => at_rest(pop_if(&mut heap, bytes), heap, other),
-        // Until it is built.
+        // Refused until it is built.
         (Closed(heap), Record::Extend(..)) => at_rest(Err(NoEdit), heap, other),
         (Closed(mut heap), Record::Repeat(count, bytes)) => {
             at_rest(repeat(&mut heap, count, bytes), heap, other)
@@ -44,10 +44,10 @@ pub fn step<'a, K: Kind>(heaps: Heaps<'a, K>, record: Record<'_>, list: &mut [K]
         (Closed(heap), Record::Row) => at_rest(row(&heap, list), heap, other),
         (Closed(heap), Record::PeekMut) => in_edit(Ok(Done), heap.peek_mut(), other),
         (Open(edit), Record::Peek) => in_edit(Ok(Element(edit.peek().copied())), edit, other),
-        (Open(mut edit), Record::Set(bytes)) => in_edit(set(&mut edit, bytes), edit, other),
+        (Open(mut edit), Record::Set(bytes)) => in_edit(edit::set(&mut edit, bytes), edit, other),
         (Open(mut edit), Record::Refresh) => in_edit(Ok(Moved(edit.refresh())), edit, other),
         (Open(edit), Record::EditPop) => {
-            let (heap, front) = pop(edit);
+            let (heap, front) = edit::pop(edit);
             at_rest(Ok(Element(front)), heap, other)
         }
         (Open(edit), Record::Close) => at_rest(Ok(Done), edit.close(), other),
