@@ -32,6 +32,7 @@ pub struct Stepped<'a, T> {
 }
 
 impl<'a, K: Kind> Heaps<'a, K> {
+    #[tactic(auto, using(crate::proofs::Living::both_promised))]
     pub fn new(first: &'a mut [K], second: &'a mut [K]) -> Heaps<'a, K>
         ensures heaps { both result ≡ begun first.old second.old }
         ensures promise { (room : ℕ) → BothPromised K.Element.ordering K.codec room }
