@@ -4,7 +4,7 @@ use Rattle.std.proofs.Common.{sym, ap, ap₂, ◌∙◌, mod-eq_of_lt, arith, le
 use Rattle.std.specs.declared.cmp.Reverse.{Reverse}
 use Rattle.std.proofs.lemmas.List.Elements.{All-drop, All-take}
 use Rattle.std.proofs.lemmas.List.{take_all, get_or-take, length-take-le, take-append-drop, drop-drop, drop-take, take-take}
-use Rattle.std.proofs.lemmas.Bool.{le-leb, lt-leb, leb-true, ltb-true, cond-true, cond-false}
+use Rattle.std.proofs.lemmas.Bool.{and_parts, le-leb, lt-leb, leb-true, ltb-true, cond-true, cond-false}
 use Rattle.elements.specs.declared.clause.Clause.{Clause}
 use Rattle.elements.specs.Clauses.{made}
 use Rattle.elements.specs.Refusals.{Answer, by}
@@ -36,7 +36,7 @@ module _ {X : Type 0} (w : ℕ) (inside : List ℕ → Answer X) where
 
 accepted_value : {X Y : Type 0} (a : Answer X) (next : X → Answer Y) (y : Y) → then a next ≡ accepted y → (x : X) × (a ≡ accepted x) × (next x ≡ accepted y)
 accepted_value (accepted x) next y e = (x, refl, e)
-accepted_value (refused r) next y e = let z : ◌≡◌ {A = ℕ} 0 1 = cc in absurd (omega arith)
+accepted_value (refused r) next y e = absurd (cc)
 
 number_back : (bytes : List ℕ) (n : ℕ) → All Byte bytes → length bytes ≡ 8 → number_decoded bytes ≡ accepted n → bytes_of 8 n ≡ bytes
 number_back bytes n small long e =
@@ -68,7 +68,7 @@ reversed_faithful = record {
   front = λ bytes h. ap (λ (a : Answer ℕ). then a (λ n. accepted (record { 0 = n }))) (number_front bytes h);
   bytes_back = λ bytes x small long e.
       let v = accepted_value (number_decoded bytes) (λ n. accepted (record { 0 = n })) x e in
-      let same : x.0 ≡ v.0 = ap (λ (a : Answer (Reverse ℕ)). elim a [ accepted y ↦ y.0 | refused r ↦ 0 ]) (sym v.2) in
+      let same : x.0 ≡ v.0 = cc (v.2) in
       ap (bytes_of 8) same ∙ number_back bytes v.0 small long v.1;
   value_back = λ x h. ap (λ (a : Answer ℕ). then a (λ n. accepted (record { 0 = n }))) (number_value x.0 h);
 }
@@ -77,8 +77,8 @@ made_value : (r n d : ℕ) (c : Clause) → made r n d ≡ accepted c → (c.ran
 made_value r n d c = by_test (nat_le d 1000)
   where
     by_test : (b : Bool) → cond b (accepted (record { rank = r; number = n; discount = d })) (refused (by 6)) ≡ accepted c → (c.rank ≡ r) × (c.number ≡ n) × (c.discount ≡ d)
-    by_test true e = let same : ◌≡◌ {A = Clause} c (record { rank = r; number = n; discount = d }) = cc in (ap (λ (x : Clause). x.rank) same, ap (λ (x : Clause). x.number) same, ap (λ (x : Clause). x.discount) same)
-    by_test false e = let z : ◌≡◌ {A = ℕ} 0 1 = cc in absurd (omega arith)
+    by_test true e = (cc, cc, cc)
+    by_test false e = absurd (cc)
 
 -- two parts, then the third
 joined_again : (bytes : List ℕ) → length bytes ≡ 8 → take 2 (drop 0 bytes) ++ (take 4 (drop 2 bytes) ++ take 2 (drop 6 bytes)) ≡ bytes
@@ -95,10 +95,6 @@ clause_back bytes c small long e =
     (ap₂ {C = List ℕ} (λ (a b : List ℕ). a ++ b) (ap (bytes_of 4) m.1 ∙ bytes_back 4 2 bytes small (omega arith)) (ap (bytes_of 2) m.2 ∙ bytes_back 2 6 bytes small (omega arith)))
     ∙ joined_again bytes long
 
-both : (a b : Bool) → a && b ≡ true → (a ≡ true) × (b ≡ true)
-both true b e = (refl, e)
-both false b e = let z : ◌≡◌ {A = ℕ} 0 1 = cc in absurd (omega arith)
-
 clause_value : (c : Clause) → clause_exists c ≡ true → clause_decoded (clause_encoded c) ≡ accepted c
 clause_value c h =
     let parts : (c.rank < 2 ^ 16) × (c.number < 2 ^ 32) × (nat_le c.discount 1000 ≡ true) = exists_parts c h in
@@ -113,8 +109,8 @@ clause_value c h =
   where
     exists_parts : (c : Clause) → clause_exists c ≡ true → (c.rank < 2 ^ 16) × (c.number < 2 ^ 32) × (nat_le c.discount 1000 ≡ true)
     exists_parts c h =
-        let one = both (nat_lt c.rank (2 ^ 16)) (nat_lt c.number (2 ^ 32) && nat_le c.discount 1000) h in
-        let two = both (nat_lt c.number (2 ^ 32)) (nat_le c.discount 1000) one.1 in
+        let one = and_parts (nat_lt c.rank (2 ^ 16)) (nat_lt c.number (2 ^ 32) && nat_le c.discount 1000) h in
+        let two = and_parts (nat_lt c.number (2 ^ 32)) (nat_le c.discount 1000) one.1 in
         (ltb-true c.rank (2 ^ 16) one.0, ltb-true c.number (2 ^ 32) two.0, two.1)
 
 clause_front : (bytes : List ℕ) → 8 ≤ length bytes → clause_decoded bytes ≡ clause_decoded (take 8 bytes)
@@ -171,7 +167,7 @@ pair_back bytes x small long e =
 
 pair_value : (x : Clause × Reverse ℕ) → clause_exists x.0 && nat_lt x.1.0 (2 ^ 64) ≡ true → pair_decoded (clause_encoded x.0 ++ bytes_of 8 x.1.0) ≡ accepted x
 pair_value x h =
-    let parts = both (clause_exists x.0) (nat_lt x.1.0 (2 ^ 64)) h in
+    let parts = and_parts (clause_exists x.0) (nat_lt x.1.0 (2 ^ 64)) h in
     inside_parts (clause_encoded x.0 ++ bytes_of 8 x.1.0) (omega arith)
     ∙ ap (λ (a : Answer Clause). then a (λ c. then (reversed_decoded (bytes_of 8 x.1.0)) (λ n. accepted (c, n)))) (clause_value x.0 parts.0)
     ∙ ap (λ (a : Answer (Reverse ℕ)). then a (λ n. accepted (x.0, n))) (reversed_faithful.value_back x.1 parts.1)
@@ -185,9 +181,3 @@ pair_faithful = record {
   bytes_back = pair_back;
   value_back = pair_value;
 }
-
-pub pair_decoded_lem : (bytes behind : List ℕ) (c : Clause) (n : Reverse ℕ) → 16 ≤ length bytes → behind ≡ drop 8 bytes → accepted c ≡ clause_decoded bytes → accepted n ≡ reversed_decoded behind → accepted (c, n) ≡ pair_decoded bytes
-pair_decoded_lem bytes behind c n long same first second =
-    ap (λ (a : Answer (Reverse ℕ)). then a (λ m. accepted (c, m))) (second ∙ ap reversed_decoded same)
-    ∙ ap (λ (a : Answer Clause). then a (λ d. then (reversed_decoded (drop 8 bytes)) (λ m. accepted (d, m)))) first
-    ∙ sym (tested_long 16 inside bytes long)
