@@ -118,7 +118,7 @@ impl Kind for Clause {
 impl Kind for Reverse<u64> {
     const MARK: [u8; 2] = *b"KR";
 
-    const WIDTH: usize = 8;
+    const WIDTH: usize = u64::WIDTH;
 
     ghost MARK = { reversed_codec.mark };
 
@@ -141,14 +141,14 @@ impl Kind for Reverse<u64> {
     }
 
     fn blank() -> Reverse<u64> {
-        Reverse(0)
+        Reverse(u64::blank())
     }
 }
 
 impl Kind for (Clause, Reverse<u64>) {
     const MARK: [u8; 2] = *b"KP";
 
-    const WIDTH: usize = 16;
+    const WIDTH: usize = Clause::WIDTH + Reverse::<u64>::WIDTH;
 
     ghost MARK = { pair_codec.mark };
 
@@ -163,17 +163,20 @@ impl Kind for (Clause, Reverse<u64>) {
     ghost faithful = { pair_faithful };
 
     fn decode(bytes: &[u8]) -> Result<(Clause, Reverse<u64>), ElementFault> {
-        if bytes.len() < 16 {
+        if bytes.len() < Self::WIDTH {
             return Err(ElementFault::CutShort);
         }
-        Ok((Clause::decode(bytes)?, Reverse::<u64>::decode(&bytes[8..])?))
+        Ok((
+            Clause::decode(bytes)?,
+            Reverse::<u64>::decode(&bytes[Clause::WIDTH..])?,
+        ))
     }
 
     fn byte(&self, i: usize) -> u8 {
-        if i < 8 {
+        if i < Clause::WIDTH {
             self.0.byte(i)
         } else {
-            self.1.byte(i - 8)
+            self.1.byte(i - Clause::WIDTH)
         }
     }
 
