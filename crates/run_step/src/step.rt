@@ -24,8 +24,6 @@ pub fn step<'a, K: Kind>(heaps: Heaps<'a, K>, record: Record<'_>, list: &mut [K]
         (Closed(mut heap), Record::Pop) => at_rest(Ok(Element(heap.pop())), heap, other),
         (Closed(heap), Record::Peek) => at_rest(Ok(Element(heap.peek().copied())), heap, other),
         (Closed(mut heap), Record::PopIf(bytes)) => at_rest(pop_if(&mut heap, bytes), heap, other),
-        // Refused until it is built.
-        (Closed(heap), Record::Extend(..)) => at_rest(Err(NoEdit), heap, other),
         (Closed(mut heap), Record::Repeat(count, bytes)) => {
             at_rest(repeat(&mut heap, count, bytes), heap, other)
         }
@@ -51,6 +49,7 @@ pub fn step<'a, K: Kind>(heaps: Heaps<'a, K>, record: Record<'_>, list: &mut [K]
             at_rest(Ok(Element(front)), heap, other)
         }
         (Open(edit), Record::Close) => at_rest(Ok(Done), edit.close(), other),
+        // Also `Extend`, until it is built.
         (Closed(heap), _) => at_rest(Err(NoEdit), heap, other),
         (Open(edit), _) => in_edit(Err(EditOpen), edit, other),
     }
