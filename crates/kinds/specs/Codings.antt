@@ -64,8 +64,8 @@ pub reversed_faithful : Faithful reversed_codec
 reversed_faithful = record {
   narrow = (omega arith, omega arith);
   sized = λ x. refl;
-  short = λ bytes h. ap (λ (a : Answer ℕ). then a (λ n. accepted (record { 0 = n }))) (number_faithful.short bytes h);
-  front = λ bytes h. ap (λ (a : Answer ℕ). then a (λ n. accepted (record { 0 = n }))) (number_front bytes h);
+  short = λ bytes h. cc (number_faithful.short bytes h);
+  front = λ bytes h. cc (number_front bytes h);
   bytes_back = λ bytes x small long e.
       let v = accepted_value (number_decoded bytes) (λ n. accepted (record { 0 = n })) x e in
       let same : x.0 ≡ v.0 = cc (v.2) in
@@ -102,10 +102,7 @@ clause_value c h =
     let r = value_back 2 c.rank [] (bytes_of 4 c.number ++ bytes_of 2 c.discount) ∙ mod-eq_of_lt parts.0 in
     let n = value_back 4 c.number (bytes_of 2 c.rank) (bytes_of 2 c.discount) ∙ mod-eq_of_lt parts.1 in
     let d = value_back 2 c.discount (bytes_of 2 c.rank ++ bytes_of 4 c.number) [] ∙ mod-eq_of_lt (omega arith) in
-    ap (λ (x : ℕ). made x (number_at 4 2 (clause_encoded c)) (number_at 2 6 (clause_encoded c))) r
-    ∙ ap (λ (x : ℕ). made c.rank x (number_at 2 6 (clause_encoded c))) n
-    ∙ ap (λ (x : ℕ). made c.rank c.number x) d
-    ∙ cond-true _ _ _ parts.2
+    rw (r, n, d) (cond-true _ _ _ parts.2)
   where
     exists_parts : (c : Clause) → clause_exists c ≡ true → (c.rank < 2 ^ 16) × (c.number < 2 ^ 32) × (nat_le c.discount 1000 ≡ true)
     exists_parts c h =
@@ -116,9 +113,7 @@ clause_value c h =
 clause_front : (bytes : List ℕ) → 8 ≤ length bytes → clause_decoded bytes ≡ clause_decoded (take 8 bytes)
 clause_front =
     tested_front 8 (λ bs. made (number_at 2 0 bs) (number_at 4 2 bs) (number_at 2 6 bs))
-    (λ bs g. ap (λ (x : ℕ). made x (number_at 4 2 (take 8 bs)) (number_at 2 6 (take 8 bs))) (number_at_front 2 0 8 bs (omega arith))
-    ∙ ap (λ (x : ℕ). made (number_at 2 0 bs) x (number_at 2 6 (take 8 bs))) (number_at_front 4 2 8 bs (omega arith))
-    ∙ ap (λ (x : ℕ). made (number_at 2 0 bs) (number_at 4 2 bs) x) (number_at_front 2 6 8 bs (omega arith)))
+    (λ bs g. rw (number_at_front 2 0 8 bs (omega arith), number_at_front 4 2 8 bs (omega arith), number_at_front 2 6 8 bs (omega arith)))
 
 pub clause_faithful : Faithful clause_codec
 clause_faithful = record {
