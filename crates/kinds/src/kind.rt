@@ -1,4 +1,4 @@
-ghost use Rattle.std.specs.Prelude.{◌≡◌, ℕ, ◌<◌, ◌≤◌, List, [], ◌∷◌, slice_index, refl};
+ghost use Rattle.std.specs.Prelude.{◌≡◌, ℕ, ◌<◌, ◌≤◌, List, slice_index, refl};
 ghost use Rattle.elements.specs.Refusals.{told};
 ghost use Rattle.kinds.specs.Codecs.{Codec, Faithful, number_codec, clause_codec, reversed_codec, pair_codec};
 ghost use Rattle.kinds.specs.Faults.{refuses_element};

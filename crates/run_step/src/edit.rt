@@ -4,7 +4,7 @@ ghost use Rattle.heap_model.specs.Calls.{pop_answer, popped};
 ghost use Rattle.binary_heap.specs.Edits.{edited};
 ghost use Rattle.binary_heap.specs.Heaps.{held};
 ghost use Rattle.run_file.specs.Records.{SE};
-ghost use Rattle.run_step.specs.States.{edit as in_edit};
+ghost use Rattle.run_step.specs.States.{edit as editing};
 ghost use Rattle.run_step.specs.Steps.{Acts};
 
 use crate::fault::RecordFault;
@@ -14,7 +14,7 @@ use kinds::kind::Kind;
 use run_lines::reply::Reply;
 
 pub(crate) fn set<K: Kind>(edit: &mut PeekMut<'_, K>, bytes: &[u8]) -> Result<Reply<K>, RecordFault>
-    ensures { Acts K.Element.ordering K.codec (in_edit (edited edit.old)) (in_edit (edited edit.new)) (SE bytes.now) result }
+    ensures { Acts K.Element.ordering K.codec (editing (edited edit.old)) (editing (edited edit.new)) (SE bytes.now) result }
 {
     edit.set(K::decode(bytes)?)?;
     Ok(Reply::Done)

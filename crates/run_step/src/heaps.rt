@@ -1,8 +1,6 @@
 ghost use Rattle.std.specs.Prelude.{◌≡◌, ℕ};
 ghost use Rattle.run_step.specs.Lives.{BothPromised};
-ghost use Rattle.binary_heap.specs.Edits.{edited};
-ghost use Rattle.binary_heap.specs.Heaps.{held};
-ghost use Rattle.run_step.specs.States.{both, begun, resting, edit as editing};
+ghost use Rattle.run_step.specs.States.{both, begun};
 
 use crate::fault::RecordFault;
 use binary_heap::BinaryHeap;
@@ -44,6 +42,7 @@ impl<'a, K: Kind> Heaps<'a, K> {
     }
 }
 
+// The answer stands first, since what makes it may still act on the heap in place.
 pub(crate) fn at_rest<'a, T>(
     answer: Result<Reply<T>, RecordFault>,
     heap: BinaryHeap<'a, T>,
