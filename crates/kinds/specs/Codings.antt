@@ -176,3 +176,9 @@ pair_faithful = record {
   bytes_back = pair_back;
   value_back = pair_value;
 }
+
+pub pair_decoded_lem : (bytes behind : List ℕ) (c : Clause) (n : Reverse ℕ) → 16 ≤ length bytes → behind ≡ drop 8 bytes → accepted c ≡ clause_decoded bytes → accepted n ≡ reversed_decoded behind → accepted (c, n) ≡ pair_decoded bytes
+pair_decoded_lem bytes behind c n long same first second =
+    ap (λ (a : Answer (Reverse ℕ)). then a (λ m. accepted (c, m))) (second ∙ ap reversed_decoded same)
+    ∙ ap (λ (a : Answer Clause). then a (λ d. then (reversed_decoded (drop 8 bytes)) (λ m. accepted (d, m)))) first
+    ∙ sym (tested_long 16 inside bytes long)
