@@ -7,8 +7,8 @@ ghost use Rattle.heap_model.specs.Edits.{opened, front_set, set_answer, refreshe
 ghost use Rattle.heap_model.specs.Faults.{refuses_heap};
 ghost use Rattle.heap_model.specs.Held.{leave};
 ghost use Rattle.heap_model.proofs.Editing.{Sets, Closes};
-ghost use Rattle.binary_heap.specs.Edits.{edited};
-ghost use Rattle.binary_heap.specs.Heaps.{held, row_of};
+ghost use Rattle.binary_heap.specs.Edits.{edited, EditsOn};
+ghost use Rattle.binary_heap.specs.Heaps.{held, row_of, HoldsOn};
 
 use crate::BinaryHeap;
 use elements::element::Element;
@@ -24,8 +24,7 @@ pub struct PeekMut<'a, T> {
 
 impl<'a, T: Element> BinaryHeap<'a, T> {
     pub fn peek_mut(self) -> PeekMut<'a, T>
-        ensures edit { edited result ≡ opened (held self.entry) }
-        ensures lender { result.heap.memory.ghost_name ≡ self.entry.memory.ghost_name }
+        ensures edit { EditsOn self.entry.memory result (opened (held self.entry)) }
     {
         PeekMut {
             heap: self,
@@ -35,9 +34,8 @@ impl<'a, T: Element> BinaryHeap<'a, T> {
 
     // Sifts the front down; answers where it then stands, 0 on an empty row.
     fn settle(&mut self) -> usize
-        ensures heap { held self.new ≡ leave (sift_down T.ordering (row_of self.old) 0).row (held self.old) }
+        ensures heap { HoldsOn self.old.memory self.new (leave (sift_down T.ordering (row_of self.old) 0).row (held self.old)) }
         ensures at { result ≡ (sift_down T.ordering (row_of self.old) 0).at }
-        ensures lender { self.new.memory.ghost_name ≡ self.old.memory.ghost_name }
     {
         self.settle_laws();
         let n = self.len();
@@ -57,9 +55,8 @@ impl<'a, T: Element> PeekMut<'a, T> {
     }
 
     pub fn set(&mut self, x: T) -> Result<(), HeapFault>
-        ensures edit { edited self.new ≡ front_set x (edited self.old) }
+        ensures edit { EditsOn self.old.heap.memory self.new (front_set x (edited self.old)) }
         ensures answer { told refuses_heap result ≡ set_answer (edited self.old) }
-        ensures lender { self.new.heap.memory.ghost_name ≡ self.old.heap.memory.ghost_name }
     {
         self.set_laws(x);
         let n = self.heap.len();
@@ -74,9 +71,8 @@ impl<'a, T: Element> PeekMut<'a, T> {
     }
 
     pub fn refresh(&mut self) -> bool
-        ensures edit { edited self.new ≡ refreshed T.ordering (edited self.old) }
+        ensures edit { EditsOn self.old.heap.memory self.new (refreshed T.ordering (edited self.old)) }
         ensures answer { result ≡ refresh_answer T.ordering (edited self.old) }
-        ensures lender { self.new.heap.memory.ghost_name ≡ self.old.heap.memory.ghost_name }
     {
         self.close_laws();
         if !self.exposed {
@@ -87,8 +83,7 @@ impl<'a, T: Element> PeekMut<'a, T> {
     }
 
     pub fn close(self) -> BinaryHeap<'a, T>
-        ensures heap { held result ≡ settled T.ordering (edited self.entry) }
-        ensures lender { result.memory.ghost_name ≡ self.entry.heap.memory.ghost_name }
+        ensures heap { HoldsOn self.entry.heap.memory result (settled T.ordering (edited self.entry)) }
     {
         self.close_laws();
         let PeekMut { heap, exposed } = self;
@@ -101,10 +96,9 @@ impl<'a, T: Element> PeekMut<'a, T> {
 
     // Writes the front into `place`, if there is one, and into `wrote` whether it did.
     pub fn pop(self, place: &mut T, wrote: &mut bool) -> BinaryHeap<'a, T>
-        ensures heap { held result ≡ popped T.ordering (edited self.entry).heap }
+        ensures heap { HoldsOn self.entry.heap.memory result (popped T.ordering (edited self.entry).heap) }
         ensures place { place.new ≡ place_after (edited self.entry).heap.row place.old }
         ensures wrote { wrote.new ≡ mark_after (edited self.entry).heap.row }
-        ensures lender { result.memory.ghost_name ≡ self.entry.heap.memory.ghost_name }
     {
         let PeekMut { heap, exposed: _ } = self;
         let mut heap = heap;

@@ -3,7 +3,7 @@ ghost use Rattle.std.specs.Prelude.{◌≡◌, ◌+◌, ◌-◌, ◌≤◌, min,
 ghost use Rattle.elements.specs.Refusals.{told};
 ghost use Rattle.heap_model.specs.Faults.{refuses_heap};
 ghost use Rattle.heap_model.specs.Growth.{taken, extended_row, extended, extend_answer, joined, second, appended_row, appended, appended_from, append_answer, adopted, adopt_answer};
-ghost use Rattle.binary_heap.specs.Heaps.{held, row_of};
+ghost use Rattle.binary_heap.specs.Heaps.{held, row_of, HoldsOn};
 
 use crate::BinaryHeap;
 use elements::element::Element;
@@ -14,10 +14,9 @@ use supplies::supply::Supply;
 
 impl<'a, T: Element> BinaryHeap<'a, T> {
     pub fn extend<S: Supply<T>>(&mut self, supply: &mut S) -> Result<usize, HeapFault>
-        ensures heap { held self.new ≡ extended T.ordering (S.rest supply.old) (held self.old) }
+        ensures heap { HoldsOn self.old.memory self.new (extended T.ordering (S.rest supply.old) (held self.old)) }
         ensures answer { told refuses_heap result ≡ extend_answer (S.rest supply.old) (held self.old) }
         ensures supply { S.rest supply.new ≡ drop (taken (S.rest supply.old) (held self.old)) (S.rest supply.old) }
-        ensures lender { self.new.memory.ghost_name ≡ self.old.memory.ghost_name }
     {
         self.extend_laws(supply);
         let count = self.take_in(supply);
@@ -29,10 +28,9 @@ impl<'a, T: Element> BinaryHeap<'a, T> {
 
     // Takes in what the supply has, while a place is free; answers how many.
     fn take_in<S: Supply<T>>(&mut self, supply: &mut S) -> usize
-        ensures heap { held self.new ≡ extended T.ordering (S.rest supply.old) (held self.old) }
+        ensures heap { HoldsOn self.old.memory self.new (extended T.ordering (S.rest supply.old) (held self.old)) }
         ensures count { result ≡ taken (S.rest supply.old) (held self.old) }
         ensures supply { S.rest supply.new ≡ drop result (S.rest supply.old) }
-        ensures lender { self.new.memory.ghost_name ≡ self.old.memory.ghost_name }
     {
         let start = self.len();
         let end = self.capacity();
@@ -43,11 +41,9 @@ impl<'a, T: Element> BinaryHeap<'a, T> {
     }
 
     pub fn append(&mut self, other: &mut BinaryHeap<'_, T>) -> Result<(), HeapFault>
-        ensures heap { held self.new ≡ appended T.ordering (held self.old) (held other.old) }
-        ensures other { held other.new ≡ appended_from (held self.old) (held other.old) }
+        ensures heap { HoldsOn self.old.memory self.new (appended T.ordering (held self.old) (held other.old)) }
+        ensures other { HoldsOn other.old.memory other.new (appended_from (held self.old) (held other.old)) }
         ensures answer { told refuses_heap result ≡ append_answer (held self.old) (held other.old) }
-        ensures lender { self.new.memory.ghost_name ≡ self.old.memory.ghost_name }
-        ensures other_lender { other.new.memory.ghost_name ≡ other.old.memory.ghost_name }
     {
         self.append_laws(other);
         let ours = self.len();
@@ -72,9 +68,8 @@ impl<'a, T: Element> BinaryHeap<'a, T> {
     }
 
     pub fn adopt(&mut self, n: usize) -> Result<(), HeapFault>
-        ensures heap { held self.new ≡ adopted T.ordering n (held self.old) }
+        ensures heap { HoldsOn self.old.memory self.new (adopted T.ordering n (held self.old)) }
         ensures answer { told refuses_heap result ≡ adopt_answer n (held self.old) }
-        ensures lender { self.new.memory.ghost_name ≡ self.old.memory.ghost_name }
     {
         self.adopt_laws(n);
         if self.len() > 0 {

@@ -8,7 +8,7 @@ ghost use Rattle.heap_model.specs.Calls.{item_at, front, reserve_answer, pushed,
 ghost use Rattle.heap_model.specs.Faults.{refuses_row, refuses_heap};
 ghost use Rattle.heap_model.specs.Held.{places_of, places, empty_on};
 ghost use Rattle.heap_model.proofs.Popping.{front_taken};
-ghost use Rattle.binary_heap.specs.Heaps.{held, row_of};
+ghost use Rattle.binary_heap.specs.Heaps.{held, row_of, HoldsOn};
 
 use account::promise_holds;
 use elements::element::Element;
@@ -29,9 +29,8 @@ pub struct BinaryHeap<'a, T> {
 
 impl<'a, T: Element> BinaryHeap<'a, T> {
     pub fn new(memory: &'a mut [T]) -> BinaryHeap<'a, T>
-        ensures heap { held result ≡ empty_on memory.old }
+        ensures heap { HoldsOn memory.entry result (empty_on memory.old) }
         ensures promise { Promise T.ordering }
-        ensures lender { result.memory.ghost_name ≡ memory.entry.ghost_name }
     {
         promise_holds::<T>();
         BinaryHeap { memory, len: 0 }
@@ -93,9 +92,8 @@ impl<'a, T: Element> BinaryHeap<'a, T> {
     }
 
     pub fn push(&mut self, x: T) -> Result<(), HeapFault>
-        ensures heap { held self.new ≡ pushed T.ordering x (held self.old) }
+        ensures heap { HoldsOn self.old.memory self.new (pushed T.ordering x (held self.old)) }
         ensures answer { told refuses_heap result ≡ push_answer (held self.old) }
-        ensures lender { self.new.memory.ghost_name ≡ self.old.memory.ghost_name }
     {
         self.push_laws(x);
         let at = self.len();
@@ -107,9 +105,8 @@ impl<'a, T: Element> BinaryHeap<'a, T> {
     }
 
     pub fn pop(&mut self) -> Option<T>
-        ensures heap { held self.new ≡ popped T.ordering (held self.old) }
+        ensures heap { HoldsOn self.old.memory self.new (popped T.ordering (held self.old)) }
         ensures answer { result ≡ pop_answer (held self.old) }
-        ensures lender { self.new.memory.ghost_name ≡ self.old.memory.ghost_name }
     {
         self.pop_laws();
         let n = self.len();

@@ -7,7 +7,7 @@ ghost use Rattle.heap_model.specs.Retention.{holds_on, retained};
 ghost use Rattle.heap_model.proofs.Retaining.{tail_taken};
 ghost use Rattle.keepers.specs.Closes.{closed};
 ghost use Rattle.keepers.specs.Keeps.{asked, holds_through};
-ghost use Rattle.binary_heap.specs.Heaps.{held, row_of};
+ghost use Rattle.binary_heap.specs.Heaps.{held, row_of, HoldsOn};
 
 use crate::BinaryHeap;
 use elements::element::Element;
@@ -18,10 +18,9 @@ use rows::rebuild::rebuild_tail;
 
 impl<'a, T: Element> BinaryHeap<'a, T> {
     pub fn pop_if<K: Keeper<T>>(&mut self, keeper: &mut K) -> Option<T>
-        ensures heap { held self.new ≡ popped_if T.ordering (asked K.step (K.holds keeper.old) []) (held self.old) }
+        ensures heap { HoldsOn self.old.memory self.new (popped_if T.ordering (asked K.step (K.holds keeper.old) []) (held self.old)) }
         ensures answer { result ≡ pop_if_answer (asked K.step (K.holds keeper.old) []) (held self.old) }
         ensures keeper { K.holds keeper.new ≡ holds_on K.step (K.holds keeper.old) (front (row_of self.old)) }
-        ensures lender { self.new.memory.ghost_name ≡ self.old.memory.ghost_name }
     {
         let Some(x) = self.peek() else {
             return None;
@@ -31,9 +30,8 @@ impl<'a, T: Element> BinaryHeap<'a, T> {
     }
 
     pub fn retain<K: Keeper<T>>(&mut self, keeper: &mut K)
-        ensures heap { held self.new ≡ retained T.ordering (asked K.step (K.holds keeper.old)) (held self.old) }
+        ensures heap { HoldsOn self.old.memory self.new (retained T.ordering (asked K.step (K.holds keeper.old)) (held self.old)) }
         ensures keeper { K.holds keeper.new ≡ holds_through K.step (K.holds keeper.old) (row_of self.old) }
-        ensures lender { self.new.memory.ghost_name ≡ self.old.memory.ghost_name }
     {
         self.retain_laws(keeper);
         let n = self.len();
@@ -42,10 +40,9 @@ impl<'a, T: Element> BinaryHeap<'a, T> {
     }
 
     pub fn drain(&mut self, list: &mut [T]) -> Result<usize, HeapFault>
-        ensures heap { held self.new ≡ drained (length list.old) (held self.old) }
+        ensures heap { HoldsOn self.old.memory self.new (drained (length list.old) (held self.old)) }
         ensures answer { told refuses_heap result ≡ drain_answer (length list.old) (held self.old) }
         ensures list { list.new ≡ drained_to (row_of self.old) list.old }
-        ensures lender { self.new.memory.ghost_name ≡ self.old.memory.ghost_name }
     {
         self.drain_laws(list.len());
         let n = self.len();
@@ -68,8 +65,7 @@ impl<'a, T: Element> BinaryHeap<'a, T> {
     }
 
     pub fn clear(&mut self)
-        ensures heap { held self.new ≡ cleared (held self.old) }
-        ensures lender { self.new.memory.ghost_name ≡ self.old.memory.ghost_name }
+        ensures heap { HoldsOn self.old.memory self.new (cleared (held self.old)) }
     {
         self.len = 0;
     }

@@ -7,6 +7,4 @@ returns-in_err-try_reserve g c = record {
   heap = search rules;
   other = search rules;
   answer = passed_on _ _ _ c.from_residual.ensures.1 (c.in_err-try_reserve.ensures.answer ∙ c.append_laws.ensures.reserve_alike _ c.len-theirs.ensures.is);
-  lender = search rules;
-  other_lender = search rules;
 }

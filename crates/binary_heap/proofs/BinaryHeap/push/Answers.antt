@@ -6,5 +6,4 @@ pub returns-in_err-try_reserve : goal.returns-in_err-try_reserve
 returns-in_err-try_reserve g c = record {
   heap = search rules;
   answer = passed_on _ _ _ c.from_residual.ensures.1 (c.in_err-try_reserve.ensures.answer ∙ c.push_laws.ensures.answer);
-  lender = search rules;
 }

@@ -8,7 +8,6 @@ returns g c =
     let k : n - 0 ≡ n = omega arith in
     let r = c.retain_row in
     record {
-      heap = laws.heap r.new.row (n - 0) r.result (k ∙ c.len-n.ensures.is) r.ensures.count r.ensures.row;
+      heap = record { holds = laws.heap r.new.row (n - 0) r.result (k ∙ c.len-n.ensures.is) r.ensures.count r.ensures.row; lender = refl };
       keeper = laws.holds (n - 0) _ (k ∙ c.len-n.ensures.is) r.ensures.keeper;
-      lender = refl;
     }

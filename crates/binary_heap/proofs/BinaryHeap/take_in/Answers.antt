@@ -10,4 +10,4 @@ returns g c =
     let end = c.capacity-end.result in
     let k : end - 0 ≡ end = omega arith in
     let t = laws.count (end - 0) c.len-start.result e.result (k ∙ c.capacity-end.ensures) c.len-start.ensures.is e.ensures.count in
-    record { heap = laws.heap e.new.places (end - 0) c.len-start.result e.result (k ∙ c.capacity-end.ensures) c.len-start.ensures.is t e.ensures.places; count = t; supply = e.ensures.supply; lender = refl }
+    record { heap = record { holds = laws.heap e.new.places (end - 0) c.len-start.result e.result (k ∙ c.capacity-end.ensures) c.len-start.ensures.is t e.ensures.places; lender = refl }; count = t; supply = e.ensures.supply }
