@@ -6,7 +6,6 @@ ghost use Rattle.heap_model.specs.Calls.{front, popped};
 ghost use Rattle.heap_model.specs.Edits.{opened, front_set, set_answer, refreshed, refresh_answer, settled, place_after, mark_after};
 ghost use Rattle.heap_model.specs.Faults.{refuses_heap};
 ghost use Rattle.heap_model.specs.Held.{leave};
-ghost use Rattle.heap_model.proofs.Editing.{Sets, Closes};
 ghost use Rattle.binary_heap.specs.Edits.{edited, EditsOn};
 ghost use Rattle.binary_heap.specs.Heaps.{held, row_of, HoldsOn};
 
@@ -33,17 +32,16 @@ impl<'a, T: Element> BinaryHeap<'a, T> {
     }
 
     // Sifts the front down; answers where it then stands, 0 on an empty row.
+    #[tactic(auto, using(heap_model::proofs::Editing::sifts_none))]
     fn settle(&mut self) -> usize
         ensures heap { HoldsOn self.old.memory self.new (leave (sift_down T.ordering (row_of self.old) 0).row (held self.old)) }
         ensures at { result ≡ (sift_down T.ordering (row_of self.old) 0).at }
     {
-        self.settle_laws();
         let n = self.len();
         if n == 0 {
             return 0;
         }
-        let BinaryHeap { memory, len: _ } = self;
-        sift_down(&mut memory[0..n], 0)
+        sift_down(&mut self.memory[0..n], 0)
     }
 }
 
@@ -54,11 +52,11 @@ impl<'a, T: Element> PeekMut<'a, T> {
         self.heap.peek()
     }
 
+    #[tactic(auto, unfolding(heap_model::specs::Edits::set_answer, heap_model::specs::Edits::front_set))]
     pub fn set(&mut self, x: T) -> Result<(), HeapFault>
         ensures edit { EditsOn self.old.heap.memory self.new (front_set x (edited self.old)) }
         ensures answer { told refuses_heap result ≡ set_answer (edited self.old) }
     {
-        self.set_laws(x);
         let n = self.heap.len();
         if n == 0 {
             return Err(HeapFault::EmptyEdit);
@@ -70,11 +68,11 @@ impl<'a, T: Element> PeekMut<'a, T> {
         Ok(())
     }
 
+    #[tactic(auto, unfolding(heap_model::specs::Edits::settled, heap_model::specs::Edits::settled_row, heap_model::specs::Edits::refresh_answer))]
     pub fn refresh(&mut self) -> bool
         ensures edit { EditsOn self.old.heap.memory self.new (refreshed T.ordering (edited self.old)) }
         ensures answer { result ≡ refresh_answer T.ordering (edited self.old) }
     {
-        self.close_laws();
         if !self.exposed {
             return false;
         }
@@ -82,10 +80,10 @@ impl<'a, T: Element> PeekMut<'a, T> {
         self.heap.settle() != 0
     }
 
+    #[tactic(auto, unfolding(heap_model::specs::Edits::settled, heap_model::specs::Edits::settled_row))]
     pub fn close(self) -> BinaryHeap<'a, T>
         ensures heap { HoldsOn self.entry.heap.memory result (settled T.ordering (edited self.entry)) }
     {
-        self.close_laws();
         let PeekMut { heap, exposed } = self;
         let mut heap = heap;
         if exposed {
@@ -111,12 +109,4 @@ impl<'a, T: Element> PeekMut<'a, T> {
         }
         heap
     }
-
-    fn set_laws(&self, x: T)
-        ensures { Sets self.now.heap.memory.now self.now.heap.len self.now.exposed x }
-    {}
-
-    fn close_laws(&self)
-        ensures { Closes T.ordering self.now.heap.memory.now self.now.heap.len self.now.exposed }
-    {}
 }

@@ -13,12 +13,12 @@ use supplies::fill::fill;
 use supplies::supply::Supply;
 
 impl<'a, T: Element> BinaryHeap<'a, T> {
+    #[tactic(auto, unfolding(heap_model::specs::Growth::extend_answer))]
     pub fn extend<S: Supply<T>>(&mut self, supply: &mut S) -> Result<usize, HeapFault>
         ensures heap { HoldsOn self.old.memory self.new (extended T.ordering (S.rest supply.old) (held self.old)) }
         ensures answer { told refuses_heap result ≡ extend_answer (S.rest supply.old) (held self.old) }
         ensures supply { S.rest supply.new ≡ drop (taken (S.rest supply.old) (held self.old)) (S.rest supply.old) }
     {
-        self.extend_laws(supply);
         let count = self.take_in(supply);
         if supply.more() {
             return Err(HeapFault::Row(TryReserveErrorKind::AllocError { count }));
@@ -27,6 +27,7 @@ impl<'a, T: Element> BinaryHeap<'a, T> {
     }
 
     // Takes in what the supply has, while a place is free; answers how many.
+    #[tactic(auto, using(heap_model::proofs::Holding::writes), unfolding(heap_model::specs::Growth::extended, heap_model::specs::Growth::taken))]
     fn take_in<S: Supply<T>>(&mut self, supply: &mut S) -> usize
         ensures heap { HoldsOn self.old.memory self.new (extended T.ordering (S.rest supply.old) (held self.old)) }
         ensures count { result ≡ taken (S.rest supply.old) (held self.old) }
@@ -34,66 +35,63 @@ impl<'a, T: Element> BinaryHeap<'a, T> {
     {
         let start = self.len();
         let end = self.capacity();
-        let BinaryHeap { memory, len } = self;
-        let count = extend_places(&mut memory[0..end], start, supply);
-        *len = start + count;
+        let count = extend_places(&mut self.memory[0..end], start, supply);
+        self.len = start + count;
         count
     }
 
+    #[tactic(auto, unfolding(heap_model::specs::Growth::append_answer, heap_model::specs::Growth::appended, heap_model::specs::Growth::appended_from, heap_model::specs::Calls::reserve_answer))]
     pub fn append(&mut self, other: &mut BinaryHeap<'_, T>) -> Result<(), HeapFault>
         ensures heap { HoldsOn self.old.memory self.new (appended T.ordering (held self.old) (held other.old)) }
         ensures other { HoldsOn other.old.memory other.new (appended_from (held self.old) (held other.old)) }
         ensures answer { told refuses_heap result ≡ append_answer (held self.old) (held other.old) }
     {
-        self.append_laws(other);
         let ours = self.len();
         let theirs = other.len();
         self.try_reserve(theirs)?;
-        let BinaryHeap { memory, len } = self;
-        other.append_to(&mut memory[0..ours + theirs], ours);
-        *len = ours + theirs;
+        append_row(&mut self.memory[0..ours + theirs], ours, other.row());
+        self.len = ours + theirs;
         other.len = 0;
         Ok(())
     }
 
-    // Joins this heap's row to the row of `ours` elements at the front of `row`, which has places for both.
-    fn append_to(&self, row: &mut [T], ours: usize)
-        requires { length row.old ≡ ours + length (row_of self.now) }
-        ensures { row.new ≡ appended_row T.ordering (take ours row.old) (row_of self.now) }
-    {
-        let theirs = self.len();
-        let memory: &[T] = self.memory;
-        let second = join(row, ours, &memory[0..theirs]);
-        rebuild_tail(row, second);
-    }
-
+    #[tactic(auto, unfolding(heap_model::specs::Growth::adopt_answer, heap_model::specs::Growth::adopted, heap_model::specs::Calls::reserve_answer))]
     pub fn adopt(&mut self, n: usize) -> Result<(), HeapFault>
         ensures heap { HoldsOn self.old.memory self.new (adopted T.ordering n (held self.old)) }
         ensures answer { told refuses_heap result ≡ adopt_answer n (held self.old) }
     {
-        self.adopt_laws(n);
         if self.len() > 0 {
             return Err(HeapFault::NotEmpty);
         }
         self.try_reserve(n)?;
-        let BinaryHeap { memory, len } = self;
-        rebuild(&mut memory[0..n]);
-        *len = n;
+        rebuild(&mut self.memory[0..n]);
+        self.len = n;
         Ok(())
     }
 }
 
 // Puts what the supply has behind the row of `start` elements, while a place is free, and takes it in; answers how many.
+#[tactic(auto, using(heap_model::proofs::Extending::fills), unfolding(heap_model::specs::Growth::extended_row))]
 fn extend_places<T: Element, S: Supply<T>>(places: &mut [T], start: usize, supply: &mut S) -> usize
     requires { start ≤ length places.old }
     ensures count { result ≡ min (length places.old - start) (length (S.rest supply.old)) }
     ensures places { places.new ≡ extended_row T.ordering (take start places.old) (take result (S.rest supply.old)) ++ drop (start + result) places.old }
     ensures supply { S.rest supply.new ≡ drop result (S.rest supply.old) }
 {
-    let end = places.len();
-    let count = fill(&mut places[start..end], supply);
+    let (_, free) = places.split_at_mut(start);
+    let count = fill(free, supply);
     rebuild_tail(&mut places[0..start + count], start);
     count
+}
+
+// Joins another row to that of the first `ours` elements of `row`, which has places for both.
+#[tactic(auto, unfolding(heap_model::specs::Growth::appended_row))]
+fn append_row<T: Element>(row: &mut [T], ours: usize, other: &[T])
+    requires { length row.old ≡ ours + length other.now }
+    ensures { row.new ≡ appended_row T.ordering (take ours row.old) other.now }
+{
+    let second = join(row, ours, other);
+    rebuild_tail(row, second);
 }
 
 // The longer of two rows goes first; answers where the second begins.

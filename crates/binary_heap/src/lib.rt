@@ -1,13 +1,11 @@
 #![tactic(auto)]
 
-ghost use Rattle.std.specs.Prelude.{◌≡◌, ◌+◌, ◌-◌, ◌<◌, ◌≤◌, length, Some, None, MatchOption, MatchResult, ◌==◌, slice_index_or, slice_set};
+ghost use Rattle.std.specs.Prelude.{◌≡◌, ◌+◌, ◌-◌, ◌<◌, ◌≤◌, ◌++◌, length, take, drop, Some, None, MatchOption, MatchResult, ◌==◌};
 ghost use Rattle.account.specs.Account.{Promise};
 ghost use Rattle.elements.specs.Refusals.{told};
-ghost use Rattle.rows.specs.Sifts.{sift_up};
-ghost use Rattle.heap_model.specs.Calls.{item_at, front, reserve_answer, pushed, push_answer, popped, pop_answer};
+ghost use Rattle.heap_model.specs.Calls.{item_at, front, reserve_answer, pushed_row, pushed, push_answer, popped_row, popped, pop_answer};
 ghost use Rattle.heap_model.specs.Faults.{refuses_row, refuses_heap};
 ghost use Rattle.heap_model.specs.Held.{places_of, places, empty_on};
-ghost use Rattle.heap_model.proofs.Popping.{front_taken};
 ghost use Rattle.binary_heap.specs.Heaps.{held, row_of, HoldsOn};
 
 use account::promise_holds;
@@ -17,7 +15,6 @@ use rows::sift::{sift_down_to_bottom, sift_up};
 
 pub mod edit;
 mod growth;
-mod laws;
 mod removal;
 
 // A priority queue on lent memory: its row is the first `len` places, the greatest element in front.
@@ -41,8 +38,7 @@ impl<'a, T: Element> BinaryHeap<'a, T> {
         ensures is { result ≡ length (row_of self.now) }
         ensures within { result ≤ places (held self.now) }
     {
-        self.read_laws();
-        self.len.min(places_of(self.memory.len()))
+        self.len.min(self.capacity())
     }
 
     pub fn is_empty(&self) -> bool
@@ -60,25 +56,26 @@ impl<'a, T: Element> BinaryHeap<'a, T> {
     pub fn get(&self, position: usize) -> Option<&T>
         ensures { MatchOption result (item_at (row_of self.now) position ≡ None) (λ x. item_at (row_of self.now) position ≡ Some x.now) }
     {
-        self.read_laws();
-        if position >= self.len() {
-            return None;
-        }
-        let memory: &[T] = self.memory;
-        Some(&memory[position])
+        self.row().get(position)
     }
 
     pub fn peek(&self) -> Option<&T>
         ensures { MatchOption result (front (row_of self.now) ≡ None) (λ x. front (row_of self.now) ≡ Some x.now) }
     {
-        self.get(0)
+        self.row().first()
     }
 
+    fn row(&self) -> &[T]
+        ensures { result.now ≡ row_of self.now }
+    {
+        &self.memory[..self.len()]
+    }
+
+    #[tactic(auto, unfolding(heap_model::specs::Calls::reserve_answer))]
     pub fn try_reserve(&self, additional: usize) -> Result<(), TryReserveErrorKind>
         ensures answer { told refuses_row result ≡ reserve_answer additional (held self.now) }
         ensures room { MatchResult result (λ _. length (row_of self.now) + additional ≤ places (held self.now)) (λ _. places (held self.now) < length (row_of self.now) + additional) }
     {
-        self.reserve_laws(additional);
         let Some(needed) = self.len().checked_add(additional) else {
             return Err(TryReserveErrorKind::CapacityOverflow);
         };
@@ -91,31 +88,29 @@ impl<'a, T: Element> BinaryHeap<'a, T> {
         Ok(())
     }
 
+    #[tactic(auto, unfolding(heap_model::specs::Calls::push_answer, heap_model::specs::Calls::reserve_answer, heap_model::specs::Calls::full, heap_model::specs::Calls::pushed))]
     pub fn push(&mut self, x: T) -> Result<(), HeapFault>
         ensures heap { HoldsOn self.old.memory self.new (pushed T.ordering x (held self.old)) }
         ensures answer { told refuses_heap result ≡ push_answer (held self.old) }
     {
-        self.push_laws(x);
         let at = self.len();
         self.try_reserve(1)?;
-        let BinaryHeap { memory, len } = self;
-        put_last(&mut memory[0..at + 1], x);
-        *len = at + 1;
+        put_last(&mut self.memory[0..at + 1], x);
+        self.len = at + 1;
         Ok(())
     }
 
+    #[tactic(auto, using(heap_model::proofs::Popping::pops), unfolding(heap_model::specs::Calls::popped))]
     pub fn pop(&mut self) -> Option<T>
         ensures heap { HoldsOn self.old.memory self.new (popped T.ordering (held self.old)) }
         ensures answer { result ≡ pop_answer (held self.old) }
     {
-        self.pop_laws();
         let n = self.len();
         if n == 0 {
             return None;
         }
-        let BinaryHeap { memory, len } = self;
-        let first = take_front(&mut memory[0..n]);
-        *len = n - 1;
+        let first = take_front(&mut self.memory[0..n]);
+        self.len = n - 1;
         Some(first)
     }
 }
@@ -127,9 +122,10 @@ fn places_of(size: usize) -> usize
 }
 
 // Writes x at the end of the row and sifts it up.
+#[tactic(auto, using(heap_model::proofs::Pushing::puts), unfolding(heap_model::specs::Calls::pushed_row))]
 fn put_last<T: Element>(row: &mut [T], x: T)
     requires { 0 < length row.old }
-    ensures { row.new ≡ (sift_up T.ordering (slice_set row.old (length row.old - 1) x) 0 (length row.old - 1)).row }
+    ensures { row.new ≡ pushed_row T.ordering x (take (length row.old - 1) row.old) }
 {
     let at = row.len() - 1;
     row[at] = x;
@@ -137,10 +133,11 @@ fn put_last<T: Element>(row: &mut [T], x: T)
 }
 
 // Hands the front out; the last element replaces it, unless it was alone, and leaves its place as it was.
+#[tactic(auto, using(heap_model::proofs::Popping::takes_front))]
 fn take_front<T: Element>(row: &mut [T]) -> T
     requires { 0 < length row.old }
-    ensures front { result ≡ slice_index_or row.old 0 result }
-    ensures row { (d : T) → row.new ≡ front_taken T.ordering d row.old }
+    ensures front { front row.old ≡ Some result }
+    ensures row { row.new ≡ popped_row T.ordering row.old ++ drop (length row.old - 1) row.old }
 {
     let first = row[0];
     let end = row.len() - 1;

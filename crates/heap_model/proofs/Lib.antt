@@ -1,12 +1,6 @@
 pub mod Holding
-pub mod Reserving
 pub mod Pushing
 pub mod Popping
-pub mod Passing
-pub mod Joining
-pub mod Draining
-pub mod Adopting
-pub mod Appending
 pub mod Extending
 pub mod Retaining
 pub mod Editing
