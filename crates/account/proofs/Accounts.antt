@@ -1,10 +1,10 @@
 -- The account, from what the calls do to rows.
-use Rattle.std.proofs.Common.{◌≡◌, ℕ, suc, ◌+◌, ◌-◌, ◌<◌, ◌≤◌, Bool, true, false, cond, not, eqb, ltb, leb, ◌⊎◌, ◌↔◌, List, [], ◌∷◌, ◌++◌, length, take, drop, Some, None, Option, Ordering, Less, Equal, Greater, sym, refl, ap, ◌∙◌, subst, inl, inr, append-nil, arith, length-append, length-drop, length-take, get_or-set_other, eqb-true}
+use Rattle.std.proofs.Common.{◌≡◌, ℕ, suc, ◌+◌, ◌-◌, ◌<◌, ◌≤◌, Bool, true, false, cond, not, eqb, ltb, leb, ◌⊎◌, ◌↔◌, List, [], ◌∷◌, ◌++◌, length, take, drop, Some, None, Option, Ordering, sym, refl, ap, ◌∙◌, subst, inl, inr, append-nil, arith, length-append, length-drop, length-take, get_or-set_other, eqb-true}
 use mathlib.Core.List.Permᴰ
 use mathlib.Core.List.{Perm}
 use Rattle.std.proofs.lemmas.Bool.{or_parts, leb-true, leb-false, ltb-false}
 use Rattle.std.proofs.lemmas.List.Elements.{All-nil, All-cons, All-head, All-tail, All-weaker}
-use Rattle.std.specs.Ordering.{is_gt, is_lt, ordering_reverse}
+use Rattle.std.proofs.lemmas.List.{nil_from_length}
 use Rattle.std.specs.Prelude.{All, Contains}
 use Rattle.elements.specs.Orders.{exceeds, below, Lawful}
 use Rattle.elements.specs.Refusals.{by, by_with}
@@ -33,26 +33,9 @@ use Rattle.account.specs.Lives.Calls.{done, next}
 use Rattle.account.specs.Account.{times, AllBelow, Accounted}
 use Rattle.account.proofs.Counts.{times_perm, times-append, in_turn, all_first, all_second, perm_cancel}
 
-not_less : (o : Ordering) → is_lt o ≡ false → is_gt (ordering_reverse o) ≡ false
-not_less Less h = h
-not_less Equal h = refl
-not_less Greater h = refl
-
-less_back : (o : Ordering) → is_gt (ordering_reverse o) ≡ false → is_lt o ≡ false
-less_back Less h = h
-less_back Equal h = refl
-less_back Greater h = refl
-
 -- what does not exceed an element below the level is below it
 low_under : {X : Type 0} (ordering : X → X → Ordering) → Lawful ordering → (level x y : X) → exceeds ordering y x ≡ false → below ordering x level ≡ true → below ordering y level ≡ true
-low_under ordering lawful level x y h e = split (below ordering y level) refl
-  where
-    split : (b : Bool) → below ordering y level ≡ b → b ≡ true
-    split true k = refl
-    split false k =
-        let l : exceeds ordering level y ≡ false = ap is_gt (lawful.converse y level) ∙ not_less (ordering y level) k in
-        let g : exceeds ordering level x ≡ false = lawful.transitive level y x l h in
-        sym (less_back (ordering x level) (sym (ap is_gt (lawful.converse x level)) ∙ g)) ∙ e
+low_under ordering lawful level x y h e = grind (arith, lawful.converse, lawful.transitive level y x)
 
 module _ {X : Type 0} (ordering : X → X → Ordering) (size : ℕ) where
   -- the memory keeps its size, and the row does not pass the places
@@ -90,7 +73,7 @@ module _ {X : Type 0} (ordering : X → X → Ordering) (size : ℕ) where
 
   -- a call that hands nothing out
   moves_fine : (q : Phase) (row comes goes : List X) (t : Edited X) → Perm (comes ++ row) (goes ++ t.heap.row) → Good q t → Kept t.heap → Fine q row (moving comes goes t)
-  moves_fine q row comes goes t b g k = record { balance = b; good = g; owed = λ level. inr (omega arith); best = λ x e. absurd (let z : ◌≡◌ {A = ℕ} 0 1 = cc in omega arith); kept = k }
+  moves_fine q row comes goes t b g k = record { balance = b; good = g; owed = λ level. inr (omega arith); best = λ x e. grind arith; kept = k }
 
   still : (q : Phase) (t : Edited X) → Good q t → Kept t.heap → Fine q t.heap.row (moving [] [] t)
   still q t g k = moves_fine q t.heap.row [] [] t (mathlib.Core.List.Perm.refl t.heap.row) g k
@@ -145,7 +128,7 @@ module _ {X : Type 0} (ordering : X → X → Ordering) (size : ℕ) where
       balance = popped_all [];
       good = popped_heap ordering lawful [] (loosened [] h);
       owed = λ level. inr (omega arith);
-      best = λ x e. absurd (let z : ◌≡◌ {A = ℕ} 0 1 = cc in omega arith);
+      best = λ x e. grind arith;
       kept = pop_kept (record { row = []; memory = memory }) k;
     }
     pop_fine (x ∷ xs) memory h k = record {
@@ -190,10 +173,6 @@ module _ {X : Type 0} (ordering : X → X → Ordering) (size : ℕ) where
         (extend_heap ordering lawful rest h g)
         (leave-kept h out k (omega (arith, extended_long ordering h.row more, length-take (taken rest h) rest)))
 
-    nil_from : (row : List X) → length row ≤ 0 → row ≡ []
-    nil_from [] l = refl
-    nil_from (x ∷ xs) l = absurd (omega arith)
-
     adopt_fine : (n : ℕ) (h : Held X) → Heaped ordering h.row → Kept h
         → Fine shut h.row (moving (if_accepted (adopt_answer n h) (take n h.memory)) [] (opened (adopted ordering n h)))
     unfolding adopted adopt_answer
@@ -206,7 +185,7 @@ module _ {X : Type 0} (ordering : X → X → Ordering) (size : ℕ) where
         split false true e f =
             let row : List X = take n h.memory in
             let out : List X = rebuilt ordering row in
-            let z : h.row ≡ [] = nil_from h.row (ltb-false 0 (length h.row) e) in
+            let z : h.row ≡ [] = nil_from_length h.row (omega (arith, ltb-false 0 (length h.row) e)) in
             let p : Perm row out = rebuilt_perm ordering row in
             let l : n ≤ places_of size = subst (λ m. n ≤ places_of m) k.memory (leb-true n (places h) f) in
             moves_fine shut h.row row [] (opened (leave out h))
@@ -383,24 +362,23 @@ module _ {X : Type 0} (ordering : X → X → Ordering) (lawful : Lawful orderin
 
   ordered_from : (p : Phase) (size : ℕ) (s : Edited X) → Good ordering size p s → p ≡ shut → Heaped ordering s.heap.row
   ordered_from shut size s g e = g
-  ordered_from editing size s g e = absurd (let z : ◌≡◌ {A = ℕ} 0 1 = cc in omega arith)
+  ordered_from editing size s g e = grind arith
 
   -- nothing stands in front exactly where nothing is held
   nothing : (row : List X) (came gone : ℕ) → came ≡ gone + length row → (front row ≡ None) ↔ (gone ≡ came)
   nothing [] came gone e = (λ h. omega arith, λ h. refl)
-  nothing (x ∷ xs) came gone e = (λ h. absurd (let z : ◌≡◌ {A = ℕ} 0 1 = cc in omega arith), λ h. absurd (omega arith))
+  nothing (x ∷ xs) came gone e = (λ h. grind arith, λ h. absurd (omega arith))
 
   -- and nothing is allowed exactly where there is nothing or the keeper says no to it
   not_allowed : (says : X → Bool) (o : Option X) → (allowed says o ≡ None) ↔ ((x : X) → o ≡ Some x → says x ≡ false)
-  not_allowed says None = (λ _ x e. absurd (let z : ◌≡◌ {A = ℕ} 0 1 = cc in omega arith), λ _. refl)
+  not_allowed says None = (λ _ x e. grind arith, λ _. refl)
   not_allowed says (Some y) = (
     λ e x d. let same : y ≡ x = cc in ap says (sym same) ∙ refuses (says y) e,
     λ h. ap (λ b. cond b (Some y) None) (h y refl),
   )
     where
       refuses : (b : Bool) → cond b (Some y) None ≡ None → b ≡ false
-      refuses true e = absurd (let z : ◌≡◌ {A = ℕ} 0 1 = cc in omega arith)
-      refuses false e = refl
+      refuses b e = grind arith
 
   long : (xs : List X) → times (λ x. true) xs ≡ length xs
   long [] = refl

@@ -1,5 +1,5 @@
 -- Counts and bags.
-use Rattle.std.proofs.Common.{◌≡◌, ℕ, suc, ◌+◌, Bool, true, false, cond, List, [], ◌∷◌, ◌++◌, refl, ap, ◌∙◌, append_assoc, arith}
+use Rattle.std.proofs.Common.{◌≡◌, ℕ, suc, ◌+◌, Bool, cond, List, [], ◌∷◌, ◌++◌, refl, ap, ◌∙◌, append_assoc, arith}
 use mathlib.Core.Logic.{∥∥₁_elim}
 use mathlib.Core.List.Perm
 use mathlib.Core.List.Permᴰ
@@ -13,10 +13,7 @@ times_cons : {X : Type 0} (f : X → Bool) (a b : X) (xs ys : List X) → a ≡ 
 times_cons f a b xs ys e h = ap (λ x. cond (f x) (suc (times f xs)) (times f xs)) e ∙ ap (λ n. cond (f b) (suc n) n) h
 
 times_swap : (p q : Bool) (n : ℕ) → cond p (suc (cond q (suc n) n)) (cond q (suc n) n) ≡ cond q (suc (cond p (suc n) n)) (cond p (suc n) n)
-times_swap true true n = refl
-times_swap true false n = refl
-times_swap false true n = refl
-times_swap false false n = refl
+times_swap p q n = grind arith
 
 times_permᴰ : {X : Type 0} (f : X → Bool) {xs ys : List X} → Permᴰ xs ys → times f xs ≡ times f ys
 times_permᴰ f Permᴰ.nil = refl
@@ -30,11 +27,7 @@ times_perm f {xs} {ys} p = ∥∥₁_elim p (ℕ_set (times f xs) (times f ys)) 
 
 pub times-append : {X : Type 0} (f : X → Bool) (xs ys : List X) → times f (xs ++ ys) ≡ times f xs + times f ys
 times-append f [] ys = omega arith
-times-append f (x ∷ xs) ys = by (f x) (times-append f xs ys)
-  where
-    by : (b : Bool) → times f (xs ++ ys) ≡ times f xs + times f ys → cond b (suc (times f (xs ++ ys))) (times f (xs ++ ys)) ≡ cond b (suc (times f xs)) (times f xs) + times f ys
-    by true h = omega arith
-    by false h = omega arith
+times-append f (x ∷ xs) ys = grind (arith, times-append f xs ys)
 
 -- two balances, one after the other
 pub in_turn : {X : Type 0} (i₁ i₂ o₁ o₂ a b c : List X) → Perm (i₁ ++ a) (o₁ ++ b) → Perm (i₂ ++ b) (o₂ ++ c) → Perm ((i₁ ++ i₂) ++ a) ((o₁ ++ o₂) ++ c)
