@@ -13,31 +13,20 @@ use supplies::fill::fill;
 use supplies::supply::Supply;
 
 impl<'a, T: Element> BinaryHeap<'a, T> {
-    #[tactic(auto, unfolding(heap_model::specs::Growth::extend_answer))]
+    #[tactic(auto, using(heap_model::proofs::Holding::writes), unfolding(heap_model::specs::Growth::extended, heap_model::specs::Growth::extend_answer, heap_model::specs::Growth::taken))]
     pub fn extend<S: Supply<T>>(&mut self, supply: &mut S) -> Result<usize, HeapFault>
         ensures heap { HoldsOn self.old.memory self.new (extended T.ordering (S.rest supply.old) (held self.old)) }
         ensures answer { told refuses_heap result ≡ extend_answer (S.rest supply.old) (held self.old) }
         ensures supply { S.rest supply.new ≡ drop (taken (S.rest supply.old) (held self.old)) (S.rest supply.old) }
     {
-        let count = self.take_in(supply);
-        if supply.more() {
-            return Err(HeapFault::Row(TryReserveErrorKind::AllocError { count }));
-        }
-        Ok(count)
-    }
-
-    // Takes in what the supply has, while a place is free; answers how many.
-    #[tactic(auto, using(heap_model::proofs::Holding::writes), unfolding(heap_model::specs::Growth::extended, heap_model::specs::Growth::taken))]
-    fn take_in<S: Supply<T>>(&mut self, supply: &mut S) -> usize
-        ensures heap { HoldsOn self.old.memory self.new (extended T.ordering (S.rest supply.old) (held self.old)) }
-        ensures count { result ≡ taken (S.rest supply.old) (held self.old) }
-        ensures supply { S.rest supply.new ≡ drop result (S.rest supply.old) }
-    {
         let start = self.len();
         let end = self.capacity();
         let count = extend_places(&mut self.memory[0..end], start, supply);
         self.len = start + count;
-        count
+        if supply.more() {
+            return Err(HeapFault::Row(TryReserveErrorKind::AllocError { count }));
+        }
+        Ok(count)
     }
 
     #[tactic(auto, unfolding(heap_model::specs::Growth::append_answer, heap_model::specs::Growth::appended, heap_model::specs::Growth::appended_from, heap_model::specs::Calls::reserve_answer))]

@@ -5,7 +5,7 @@ ghost use Rattle.account.specs.Account.{Promise};
 ghost use Rattle.elements.specs.Refusals.{told};
 ghost use Rattle.heap_model.specs.Calls.{item_at, front, reserve_answer, pushed_row, pushed, push_answer, popped_row, popped, pop_answer};
 ghost use Rattle.heap_model.specs.Faults.{refuses_row, refuses_heap};
-ghost use Rattle.heap_model.specs.Held.{places_of, places, empty_on};
+ghost use Rattle.heap_model.specs.Held.{places, empty_on};
 ghost use Rattle.binary_heap.specs.Heaps.{held, row_of, HoldsOn};
 
 use account::promise_holds;
@@ -16,6 +16,8 @@ use rows::sift::{sift_down_to_bottom, sift_up};
 pub mod edit;
 mod growth;
 mod removal;
+
+const MOST_PLACES: usize = 1_048_576;
 
 // A priority queue on lent memory: its row is the first `len` places, the greatest element in front.
 #[derive(Drop)]
@@ -50,7 +52,7 @@ impl<'a, T: Element> BinaryHeap<'a, T> {
     pub fn capacity(&self) -> usize
         ensures { result ≡ places (held self.now) }
     {
-        places_of(self.memory.len())
+        self.memory.len().min(MOST_PLACES)
     }
 
     pub fn get(&self, position: usize) -> Option<&T>
@@ -76,9 +78,10 @@ impl<'a, T: Element> BinaryHeap<'a, T> {
         ensures answer { told refuses_row result ≡ reserve_answer additional (held self.now) }
         ensures room { MatchResult result (λ _. length (row_of self.now) + additional ≤ places (held self.now)) (λ _. places (held self.now) < length (row_of self.now) + additional) }
     {
-        let Some(needed) = self.len().checked_add(additional) else {
-            return Err(TryReserveErrorKind::CapacityOverflow);
-        };
+        let needed = self
+            .len()
+            .checked_add(additional)
+            .ok_or(TryReserveErrorKind::CapacityOverflow)?;
         let places = self.capacity();
         if needed > places {
             return Err(TryReserveErrorKind::AllocError {
@@ -113,12 +116,6 @@ impl<'a, T: Element> BinaryHeap<'a, T> {
         self.len = n - 1;
         Some(first)
     }
-}
-
-fn places_of(size: usize) -> usize
-    ensures { result ≡ places_of size }
-{
-    size.min(1_048_576)
 }
 
 // Writes x at the end of the row and sifts it up.

@@ -1,5 +1,5 @@
 -- The calls keep heap order, lose nothing, and hand out the greatest.
-use Rattle.std.proofs.Common.{◌≡◌, ℕ, zero, suc, ◌<◌, ◌≤◌, min, Bool, true, false, cond, ltb, List, [], ◌∷◌, ◌++◌, length, get_or, take, set, Some, Ordering, sym, refl, ◌∙◌, subst, arith, length-append, length-set, length-take, get_or-set_other, get_or-take}
+use Rattle.std.proofs.Common.{◌≡◌, ℕ, zero, suc, ◌<◌, ◌≤◌, min, Bool, true, false, cond, ltb, List, [], ◌∷◌, ◌++◌, length, get_or, take, set, Some, Ordering, sym, ◌∙◌, subst, arith, length-append, length-set, length-take, get_or-set_other, get_or-take}
 use mathlib.Core.List.Permᴰ
 use mathlib.Core.List.{Perm, perm_middle, perm_append_singleton}
 use Rattle.std.proofs.lemmas.Bool.{cond_both, ltb-false}
@@ -68,7 +68,7 @@ module _ {X : Type 0} (ordering : X → X → Ordering) where
 
   -- the front of a row that is not empty
   at_front : (P : List X → X → Type 0) (row : List X) (x : X) → ((d : X) (ds : List X) → P (d ∷ ds) d) → front row ≡ Some x → P row x
-  at_front P [] x f e = let z : ◌≡◌ {A = ℕ} 0 1 = cc in absurd (omega arith)
+  at_front P [] x f e = grind arith
   at_front P (d ∷ ds) x f e = let same : d ≡ x = cc in subst (P (d ∷ ds)) same (f d ds)
 
   pub extend_perm : (rest : List X) (h : Held X) → Perm (h.row ++ take (taken rest h) rest) (extended ordering rest h).row
@@ -106,14 +106,8 @@ module _ {X : Type 0} (ordering : X → X → Ordering) where
     -- up to the first with a no, those kept are the row
     kept_same : (past xs : List X) (k : ℕ) (d : X) → k < first_no says past xs → get_or xs k d ≡ get_or (kept says past xs) k d
     kept_same past [] k d l = absurd (omega arith)
-    kept_same past (x ∷ xs) k d l =
-        (elim (says past x) as (λ b. k < cond b (suc (first_no says (x ∷ past) xs)) zero → get_or (x ∷ xs) k d ≡ get_or (cond b (x ∷ kept says (x ∷ past) xs) (kept says (x ∷ past) xs)) k d) [
-          | true ↦ λ m. (elim k as (λ i. i < suc (first_no says (x ∷ past) xs) → get_or (x ∷ xs) i d ≡ get_or (x ∷ kept says (x ∷ past) xs) i d) [
-            | zero ↦ λ _. refl
-            | suc i ↦ λ n. kept_same (x ∷ past) xs i d (omega arith)
-          ]) m
-          | false ↦ λ m. absurd (omega arith)
-        ]) l
+    kept_same past (x ∷ xs) zero d l = grind arith
+    kept_same past (x ∷ xs) (suc i) d l = grind (arith, kept_same (x ∷ past) xs i d)
 
   module _ (lawful : Lawful ordering) where
     pub greatest : (x : X) (row : List X) → front row ≡ Some x → Heaped ordering row → All (λ y. exceeds ordering y x ≡ false) row

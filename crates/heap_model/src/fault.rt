@@ -5,14 +5,14 @@ ghost use Rattle.heap_model.specs.Faults.{refuses_row, refuses_heap};
 use elements::refusal::{Fault, Refusal};
 
 // Why a row cannot grow.
-#[derive(Clone, Copy)]
+#[derive(Clone, Copy, Debug, PartialEq, Eq)]
 pub enum TryReserveErrorKind {
     CapacityOverflow,
     AllocError { count: usize },
 }
 
 // Why a call on a heap was refused.
-#[derive(Clone, Copy)]
+#[derive(Clone, Copy, Debug, PartialEq, Eq)]
 pub enum HeapFault {
     Row(TryReserveErrorKind),
     NotEmpty,
