@@ -1,4 +1,4 @@
-use Rattle.std.proofs.Common.{refl}
+use Rattle.std.proofs.Common.{rules}
 use Rattle.std.proofs.lemmas.List.Elements.{All-from_recursion}
 use lib.Count.{count_leading_zeros}
 use Rattle.rows.specs.Sifts.{rise, sink, sift_up, sift_down, sift_to_leaf}
@@ -12,31 +12,4 @@ use Rattle.heap_model.proofs.laws.examples_hold.Goals as goal
 
 pub returns : goal.returns
 unfolding count_leading_zeros rise sink sift_up sift_down sift_to_leaf sift_downs sift_ups full pushed_row pushed popped_row popped taken extend_answer extended_row extended appended_row appended retained_row retained front_set settled_row settled refresh_answer
-returns c = All-from_recursion Holds examples (
-  refl,
-  (
-    (refl, refl),
-    (
-      (refl, refl),
-      (
-        refl,
-        (
-          (refl, refl),
-          (
-            refl,
-            (
-              refl,
-              (
-                (refl, refl, refl),
-                (
-                  (refl, refl, refl),
-                  (refl, (refl, (refl, (refl, (refl, (refl, (refl, (refl, tt)))))))),
-                ),
-              ),
-            ),
-          ),
-        ),
-      ),
-    ),
-  ),
-)
+returns c = All-from_recursion Holds examples (search rules)
