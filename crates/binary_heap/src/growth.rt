@@ -3,7 +3,7 @@ ghost use Rattle.std.specs.Prelude.{◌≡◌, ◌+◌, ◌-◌, ◌≤◌, min,
 ghost use Rattle.elements.specs.Refusals.{told};
 ghost use Rattle.heap_model.specs.Faults.{refuses_heap};
 ghost use Rattle.heap_model.specs.Growth.{taken, extended_row, extended, extend_answer, joined, second, appended_row, appended, appended_from, append_answer, adopted, adopt_answer};
-ghost use Rattle.binary_heap.specs.Heaps.{held, row_of, HoldsOn};
+ghost use Rattle.binary_heap.specs.Heaps.{held, HoldsOn};
 
 use crate::BinaryHeap;
 use elements::element::Element;

@@ -29,4 +29,4 @@ module _ {X : Type 0} (xs ys : List X) (n : ℕ) (l : length xs ≤ n) where
   pub drop_past : drop n (xs ++ ys) ≡ drop (n - length xs) ys
   drop_past = ap (λ m. drop m (xs ++ ys)) (omega arith) ∙ drop-append-add xs ys (n - length xs)
 
-pub ruleset fills = (filled_count, filled_places, filled_rest, take_past, drop_past, take_at, drop_at, drop-drop, length-take, length-drop, length-append)
+pub ruleset fills = (filled_count, filled_places, filled_rest, take_past, drop_past, take_at, drop_at, drop-drop, length-take)
