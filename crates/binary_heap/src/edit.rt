@@ -81,28 +81,30 @@ impl<'a, T: Element> PeekMut<'a, T> {
     }
 
     #[tactic(auto, unfolding(heap_model::specs::Edits::settled, heap_model::specs::Edits::settled_row))]
-    pub fn close(mut self) -> BinaryHeap<'a, T>
+    pub fn close(self) -> BinaryHeap<'a, T>
         ensures heap { HoldsOn self.entry.heap.memory result (settled T.ordering (edited self.entry)) }
     {
+        let mut heap = self.heap;
         if self.exposed {
-            self.heap.settle();
+            heap.settle();
         }
-        self.heap
+        heap
     }
 
     // Writes the front into `place`, if there is one, and into `wrote` whether it did.
-    pub fn pop(mut self, place: &mut T, wrote: &mut bool) -> BinaryHeap<'a, T>
+    pub fn pop(self, place: &mut T, wrote: &mut bool) -> BinaryHeap<'a, T>
         ensures heap { HoldsOn self.entry.heap.memory result (popped T.ordering (edited self.entry).heap) }
         ensures place { place.new ≡ place_after (edited self.entry).heap.row place.old }
         ensures wrote { wrote.new ≡ mark_after (edited self.entry).heap.row }
     {
-        match self.heap.pop() {
+        let mut heap = self.heap;
+        match heap.pop() {
             Some(x) => {
                 *place = x;
                 *wrote = true;
             }
             None => *wrote = false,
         }
-        self.heap
+        heap
     }
 }
