@@ -1,5 +1,5 @@
 -- The making of a clause, and its order.
-use Rattle.std.specs.Prelude.{ℕ, cond, nat_le}
+use Rattle.std.specs.Prelude.{ℕ, if◌then◌else◌, nat_le}
 use Rattle.std.specs.declared.cmp.Ordering.{Ordering}
 use Rattle.elements.specs.declared.clause.Clause.{Clause}
 use Rattle.elements.specs.declared.clause.ClauseFault.{ClauseFault}
@@ -15,7 +15,9 @@ refuses_clause DiscountTooHigh = by 6
 -- a clause exactly if its discount is at most 1,000 per mille
 abbrev pub made : ℕ → ℕ → ℕ → Answer Clause
 made rank number discount =
-    cond (nat_le discount 1000) (accepted (record { rank = rank; number = number; discount = discount })) (refused (by 6))
+    if nat_le discount 1000
+    then accepted (record { rank = rank; number = number; discount = discount })
+    else refused (by 6)
 
 -- its rank alone orders a clause
 abbrev pub by_rank : Clause → Clause → Ordering

@@ -1,5 +1,5 @@
 -- What an order answers, its laws, and the order of numbers.
-use Rattle.std.specs.Prelude.{◌≡◌, ℕ, Bool, false, cond, ◌==◌, nat_lt, Option, Some}
+use Rattle.std.specs.Prelude.{◌≡◌, ℕ, Bool, false, if◌then◌else◌, ◌==◌, nat_lt, Option, Some}
 use Rattle.std.specs.declared.cmp.Ordering.TheVariants.{Less, Equal, Greater}
 use Rattle.std.specs.declared.cmp.Ordering.{Ordering}
 use Rattle.std.specs.Ordering.{is_gt, is_lt, ordering_reverse}
@@ -19,9 +19,9 @@ module _ {X : Type 0} (ordering : X → X → Ordering) where
 
   -- the laws of an element kind: its comparisons answer by the order, which is lawful
   pub record ElementLaws (compares : X → X → Option Ordering) (orders : X → X → Ordering) : Type 0 where
-    pub cmp : (x y : X) (r : Ordering) → r ≡ orders x y → r ≡ ordering x y
-    pub partial : (x y : X) (r : Option Ordering) → r ≡ compares x y → r ≡ Some (ordering x y)
+    pub cmp : (x y : X) → orders x y ≡ ordering x y
+    pub partial : (x y : X) → compares x y ≡ Some (ordering x y)
     pub lawful : Lawful
 
 abbrev pub by_size : ℕ → ℕ → Ordering
-by_size x y = cond (nat_lt x y) Less (cond (x == y) Equal Greater)
+by_size x y = if nat_lt x y then Less else (if x == y then Equal else Greater)

@@ -16,7 +16,7 @@ pub struct Clause {
     discount: u16,
 }
 
-#[derive(Clone, Copy)]
+#[derive(Clone, Copy, Debug, PartialEq, Eq)]
 pub enum ClauseFault {
     DiscountTooHigh,
 }
@@ -59,10 +59,7 @@ impl Fault for ClauseFault {
 
     fn refusal(&self) -> Refusal {
         match self {
-            ClauseFault::DiscountTooHigh => Refusal {
-                number: 6,
-                carries: None,
-            },
+            ClauseFault::DiscountTooHigh => Refusal::by(6),
         }
     }
 }

@@ -39,6 +39,7 @@ impl<A: Element, B: Element> Element for (A, B) {
     ghost laws = { Prim.search rules };
 }
 
+// `exceeds` and `is_below` are two of std's comparisons, each told by the kind's own order.
 pub fn exceeds<T: Element>(x: &T, y: &T) -> bool
     ensures { result ≡ exceeds T.ordering x.now y.now }
 {

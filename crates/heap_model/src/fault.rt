@@ -33,14 +33,8 @@ impl Fault for TryReserveErrorKind {
 
     fn refusal(&self) -> Refusal {
         match self {
-            TryReserveErrorKind::CapacityOverflow => Refusal {
-                number: 1,
-                carries: None,
-            },
-            TryReserveErrorKind::AllocError { count } => Refusal {
-                number: 2,
-                carries: Some(*count),
-            },
+            TryReserveErrorKind::CapacityOverflow => Refusal::by(1),
+            TryReserveErrorKind::AllocError { count } => Refusal::by_with(2, *count),
         }
     }
 }
@@ -51,18 +45,9 @@ impl Fault for HeapFault {
     fn refusal(&self) -> Refusal {
         match self {
             HeapFault::Row(fault) => fault.refusal(),
-            HeapFault::NotEmpty => Refusal {
-                number: 3,
-                carries: None,
-            },
-            HeapFault::EmptyEdit => Refusal {
-                number: 4,
-                carries: None,
-            },
-            HeapFault::ShortList => Refusal {
-                number: 5,
-                carries: None,
-            },
+            HeapFault::NotEmpty => Refusal::by(3),
+            HeapFault::EmptyEdit => Refusal::by(4),
+            HeapFault::ShortList => Refusal::by(5),
         }
     }
 }

@@ -6,7 +6,7 @@ use elements::clause::ClauseFault;
 use elements::refusal::{Fault, Refusal};
 
 // Why bytes are no element.
-#[derive(Clone, Copy)]
+#[derive(Clone, Copy, Debug, PartialEq, Eq)]
 pub enum ElementFault {
     Clause(ClauseFault),
     CutShort,
@@ -26,10 +26,7 @@ impl Fault for ElementFault {
     fn refusal(&self) -> Refusal {
         match self {
             ElementFault::Clause(fault) => fault.refusal(),
-            ElementFault::CutShort => Refusal {
-                number: 9,
-                carries: None,
-            },
+            ElementFault::CutShort => Refusal::by(9),
         }
     }
 }

@@ -7,7 +7,7 @@ use heap_model::fault::HeapFault;
 use kinds::fault::ElementFault;
 
 // Why a record that was read whole was refused.
-#[derive(Clone, Copy)]
+#[derive(Clone, Copy, Debug, PartialEq, Eq)]
 pub enum RecordFault {
     Heap(HeapFault),
     Element(ElementFault),
@@ -38,14 +38,8 @@ impl Fault for RecordFault {
         match self {
             RecordFault::Heap(fault) => fault.refusal(),
             RecordFault::Element(fault) => fault.refusal(),
-            RecordFault::EditOpen => Refusal {
-                number: 10,
-                carries: None,
-            },
-            RecordFault::NoEdit => Refusal {
-                number: 11,
-                carries: None,
-            },
+            RecordFault::EditOpen => Refusal::by(10),
+            RecordFault::NoEdit => Refusal::by(11),
         }
     }
 }
