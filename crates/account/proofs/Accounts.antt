@@ -11,7 +11,7 @@ use Rattle.elements.specs.Refusals.{by, by_with}
 use Rattle.elements.specs.Refusals.Answer.{accepted, refused}
 use Rattle.keepers.specs.Keeps.{dropped}
 use Rattle.keepers.proofs.Kept.{kept_few}
-use Rattle.rows.specs.Sifts.{parent, sift_down}
+use Rattle.rows.specs.Sifts.{parent, sunk, sift_down}
 use Rattle.rows.specs.Rebuilds.{rebuilt}
 use Rattle.rows.specs.Heaps.{Heaped, HeapedFrom}
 use Rattle.rows.proofs.Bags.{length_perm, down_perm}
@@ -263,13 +263,13 @@ module _ {X : Type 0} (ordering : X → X → Ordering) (size : ℕ) where
             (leave-kept (record { row = y ∷ ys; memory = memory }) (x ∷ ys) k k.within)
 
     settled_perm : (b : Bool) (row : List X) → Perm row (settled_row ordering b row)
-    unfolding settled_row sift_down
+    unfolding settled_row sunk
     settled_perm true [] = mathlib.Core.List.Perm.refl []
     settled_perm true (x ∷ xs) = down_perm ordering (x ∷ xs) 0 (omega arith)
     settled_perm false row = mathlib.Core.List.Perm.refl row
 
     sifted_heap : (row : List X) → HeapedFrom ordering 1 row → Heaped ordering (sift_down ordering row 0).row
-    unfolding sift_down
+    unfolding sunk
     sifted_heap [] h = empty
     sifted_heap (x ∷ xs) h = λ k p q. down_heap ordering lawful (x ∷ xs) 0 (omega arith) h k p q (omega arith)
 

@@ -9,7 +9,7 @@ use Rattle.std.specs.Prelude.{All}
 use Rattle.elements.specs.Orders.{exceeds, Lawful}
 use Rattle.keepers.specs.Keeps.{kept, dropped, first_no}
 use Rattle.keepers.proofs.Kept.{kept_few, kept_all, first_few}
-use Rattle.rows.specs.Sifts.{parent, sift_up, sift_to_leaf}
+use Rattle.rows.specs.Sifts.{parent, sunk, sift_up}
 use Rattle.rows.specs.Rebuilds.{tail_rebuilt}
 use Rattle.rows.specs.Heaps.{InOrder, Heaped, FrontHeaped, HeapedFrom}
 use Rattle.rows.proofs.Comparisons.{Le}
@@ -36,7 +36,7 @@ module _ {X : Type 0} (ordering : X → X → Ordering) where
   pushed_perm x row = mathlib.Core.List.Perm.trans (mathlib.Core.List.Perm.symm (perm_append_singleton x row)) (up_perm ordering (row ++ (x ∷ [])) 0 (length row) (simp length-append (omega arith)))
 
   pub popped_perm : (d : X) (ds : List X) → Perm ds (popped_row ordering (d ∷ ds))
-  unfolding popped_row sift_to_leaf sift_up
+  unfolding popped_row sunk sift_up
   popped_perm d [] = mathlib.Core.List.Perm.refl []
   popped_perm d (y ∷ ys) = mathlib.Core.List.Perm.trans (last_first y ys d) (bottom_perm ordering (last_in_front ordering d (y ∷ ys)) 0 (omega arith))
 

@@ -2,14 +2,14 @@
 use Rattle.std.proofs.Common.{◌≡◌, ℕ, suc, ◌+◌, ◌-◌, ◌<◌, ◌≤◌, List, [], ◌∷◌, length, get_or, take, set, Ordering, sym, refl, ap, ◌∙◌, arith, length-set}
 use Rattle.std.proofs.Math.Seq.{take-set-lt}
 use Rattle.std.proofs.lemmas.List.{length-take-le, get_or_default}
-use Rattle.rows.specs.Sifts.{sift_up, sift_to_leaf, sift_down_to_bottom}
+use Rattle.rows.specs.Sifts.{sift_up, sunk, sift_down_to_bottom}
 use Rattle.rows.proofs.Bags.{length_perm, bottom_perm}
 use Rattle.heap_model.specs.Calls.{popped_row, last_in_front}
 use Rattle.heap_model.proofs.Holding.{writes}
 
 module _ {X : Type 0} (ordering : X → X → Ordering) where
   pub popped_long : (row : List X) → length (popped_row ordering row) ≡ length row - 1
-  unfolding popped_row sift_to_leaf sift_up
+  unfolding popped_row sunk sift_up
   popped_long [] = refl
   popped_long (d ∷ []) = refl
   popped_long (d ∷ (y ∷ ys)) =
@@ -18,7 +18,7 @@ module _ {X : Type 0} (ordering : X → X → Ordering) where
       sym (length_perm (bottom_perm ordering moved 0 (omega arith))) ∙ size ∙ omega arith
 
   pub popped_few : (row : List X) → length row ≤ 1 → popped_row ordering row ≡ []
-  unfolding popped_row sift_to_leaf sift_up
+  unfolding popped_row sunk sift_up
   popped_few [] l = refl
   popped_few (x ∷ []) l = refl
   popped_few (x ∷ (y ∷ ys)) l = absurd (omega arith)

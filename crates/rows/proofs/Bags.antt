@@ -6,7 +6,7 @@ use native.Mathlib.Nat.{ℕ_set}
 use lib.Seq.{set-get_or}
 use Rattle.std.proofs.lemmas.Bool.{leb-false, ltb-true, cond_both}
 use Rattle.elements.specs.Orders.{exceeds, below}
-use Rattle.rows.specs.Sifts.{Sifted, put, parent, rise, greater_child, sink, sift_up, sift_down, sift_to_leaf, sift_down_to_bottom}
+use Rattle.rows.specs.Sifts.{Sifted, put, parent, rise, greater_child, sink, sift_up, sunk, sift_down, sift_to_leaf, sift_down_to_bottom}
 use Rattle.rows.proofs.Sinks.{child_within}
 
 lengthᴰ : {X : Type 0} {xs ys : List X} → Permᴰ xs ys → length xs ≡ length ys
@@ -87,12 +87,12 @@ module _ {X : Type 0} (ordering : X → X → Ordering) where
       subst (λ r. Kept r (sink ordering moves (length (d ∷ ys)) (get_or (d ∷ ys) pos d) (d ∷ ys) pos)) (set-get_or (d ∷ ys) pos d) (sink-kept moves (length (d ∷ ys)) (get_or (d ∷ ys) pos d) (d ∷ ys) pos l)
 
   pub down_perm : (row : List X) (pos : ℕ) → pos < length row → Perm row (sift_down ordering row pos).row
-  unfolding sift_down
+  unfolding sunk
   down_perm [] pos l = absurd (omega arith)
   down_perm (d ∷ ys) pos l = (sinks_kept (below ordering) d ys pos l).bag
 
   pub leaf_kept : (row : List X) (pos : ℕ) → pos < length row → Kept row (sift_to_leaf ordering row pos)
-  unfolding sift_to_leaf
+  unfolding sunk
   leaf_kept [] pos l = absurd (omega arith)
   leaf_kept (d ∷ ys) pos l = sinks_kept (λ x child. true) d ys pos l
 

@@ -1,7 +1,7 @@
 -- The sifts put whole rows in order.
 use Rattle.std.proofs.Common.{◌≡◌, ℕ, zero, suc, ◌<◌, ◌≤◌, List, [], ◌∷◌, length, get_or, Ordering, sym, subst, arith}
 use Rattle.std.proofs.lemmas.List.{get_or_default, get_or_read}
-use Rattle.rows.specs.Sifts.{Sifted, parent, rise, sift_up, sift_down, sift_to_leaf, sift_down_to_bottom}
+use Rattle.rows.specs.Sifts.{Sifted, parent, rise, sift_up, sunk, sift_down, sift_to_leaf, sift_down_to_bottom}
 use Rattle.elements.specs.Orders.{Lawful}
 use Rattle.rows.specs.Heaps.{InOrder, Heaped, FrontHeaped, HeapedFrom}
 use Rattle.rows.proofs.Holes.{Ordered, Gap, Over}
@@ -53,7 +53,7 @@ module _ {X : Type 0} (ordering : X → X → Ordering) where
         (λ k e. absurd (omega arith))
 
     pub down_heap : (row : List X) (pos : ℕ) → pos < length row → HeapedFrom ordering (suc pos) row → HeapedFrom ordering pos (sift_down ordering row pos).row
-    unfolding sift_down
+    unfolding sunk
     down_heap [] pos l h = absurd (omega arith)
     down_heap (d ∷ ds) pos l h =
         let row : List X = d ∷ ds in
@@ -64,7 +64,7 @@ module _ {X : Type 0} (ordering : X → X → Ordering) where
         (held pos (length row) out x (omega arith) (falls ordering lawful x pos (length row) row pos (omega arith) l (omega arith) (opens pos (length row) row x h) (λ p e. absurd (omega arith))))
 
     pub bottom_heap : (row : List X) → HeapedFrom ordering 1 row → Heaped ordering (sift_down_to_bottom ordering row 0).row
-    unfolding sift_to_leaf sift_up
+    unfolding sunk sift_up
     bottom_heap [] h = λ k a b. absurd (omega arith)
     bottom_heap (d ∷ ds) h =
         let row : List X = d ∷ ds in

@@ -8,3 +8,4 @@ pub mod Settling
 pub mod Heaping
 pub mod Rebuilding
 pub mod Stands
+pub mod Checking

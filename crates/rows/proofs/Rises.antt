@@ -20,12 +20,6 @@ module _ {X : Type 0} (ordering : X → X → Ordering) where
     | suc h ↦ λ p q. ap (λ r. cond (leb (suc h) start) (put x row (suc h)) (cond (exceeds ordering x (get_or row (parent (suc h)) x)) r (put x row (suc h)))) (any_fuel f g start x (set row (suc h) (get_or row (parent (suc h)) x)) (parent (suc h)) (omega arith) (omega arith))
   ] a b
 
-  pub record Rises : Type 0 where
-    pub begins : (row : List X) (start pos : ℕ) (x : X) → pos < length row → x ≡ get_or row pos x → risen start x row pos ≡ sift_up ordering row start pos
-    pub stops : (start : ℕ) (x : X) (row : List X) (hole : ℕ) → hole ≤ start → risen start x row hole ≡ put x row hole
-    pub rests : (start : ℕ) (x y : X) (row : List X) (hole : ℕ) → hole < length row → y ≡ get_or row (parent hole) y → exceeds ordering x y ≡ false → risen start x row hole ≡ put x row hole
-    pub moves : (start : ℕ) (x y : X) (row : List X) (hole : ℕ) → start < hole → hole < length row → y ≡ get_or row (parent hole) y → exceeds ordering x y ≡ true → risen start x (set row hole y) (parent hole) ≡ risen start x row hole
-
   stops_at : (f start : ℕ) (x : X) (row : List X) (hole : ℕ) → hole ≤ start → rise ordering f start x row hole ≡ put x row hole
   unfolding rise
   stops_at zero start x row hole low = refl
@@ -53,11 +47,21 @@ module _ {X : Type 0} (ordering : X → X → Ordering) where
   begins_at [] start pos x l e = absurd (omega arith)
   begins_at (d ∷ ds) start pos x l e = ap (λ v. rise ordering pos start v (d ∷ ds) pos) (get_or_read (d ∷ ds) pos x l e d)
 
-  pub rises : Rises
+  pub begins : (row : List X) (start pos : ℕ) (x : X) → pos < length row → x ≡ get_or row pos x → risen start x row pos ≡ sift_up ordering row start pos
   unfolding risen
-  rises = record {
-    begins = begins_at;
-    stops = λ start x row hole low. stops_at hole start x row hole low;
-    rests = λ start x y row hole l e t. rests_at hole start x y row hole l e t;
-    moves = moves_at;
-  }
+  begins row start pos x l e = begins_at row start pos x l e
+
+  pub stops : (start : ℕ) (x : X) (row : List X) (hole : ℕ) → hole ≤ start → risen start x row hole ≡ put x row hole
+  unfolding risen
+  stops start x row hole low = stops_at hole start x row hole low
+
+  pub rests : (start : ℕ) (x y : X) (row : List X) (hole : ℕ) → hole < length row → y ≡ get_or row (parent hole) y → exceeds ordering x y ≡ false → risen start x row hole ≡ put x row hole
+  unfolding risen
+  rests start x y row hole l e t = rests_at hole start x y row hole l e t
+
+  pub moves : (start : ℕ) (x y : X) (row : List X) (hole p : ℕ) → start < hole → hole < length row → p ≡ parent hole → y ≡ get_or row p y → exceeds ordering x y ≡ true → risen start x (set row hole y) p ≡ risen start x row hole
+  unfolding risen
+  moves start x y row hole p above l at e t =
+      ap (λ i. rise ordering i start x (set row hole y) i) at ∙ moves_at start x y row hole above l (e ∙ ap (λ i. get_or row i y) at) t
+
+pub ruleset rises = (begins, stops, rests, moves)

@@ -1,9 +1,9 @@
--- One turn of `sift_down`, and of `sift_to_leaf`, is one step of their definition.
+-- One turn of `sink` is one step of its definition.
 use Rattle.std.proofs.Common.{◌≡◌, ℕ, zero, suc, ◌+◌, ◌*◌, ◌/◌, ◌<◌, ◌≤◌, Bool, true, false, cond, ltb, List, [], ◌∷◌, length, get_or, set, Ordering, sym, refl, ap, ◌∙◌, arith, length-set}
 use Rattle.std.proofs.lemmas.Bool.{lt-ltb, le-ltb, cond-true, cond-false, cond_both, ltb-true}
 use Rattle.std.proofs.lemmas.List.{get_or_read}
-use Rattle.elements.specs.Orders.{exceeds, below}
-use Rattle.rows.specs.Sifts.{Sifted, put, greater_child, sink, sift_down, sift_to_leaf}
+use Rattle.elements.specs.Orders.{exceeds}
+use Rattle.rows.specs.Sifts.{Sifted, put, greater_child, sink, sunk}
 
 module _ {X : Type 0} (ordering : X → X → Ordering) where
   pub child_within : (d : X) (row : List X) (p : ℕ) → p < length row / 2 → (p < greater_child ordering d row p) × (greater_child ordering d row p < length row)
@@ -17,8 +17,8 @@ module _ {X : Type 0} (ordering : X → X → Ordering) where
 
   module _ (moves : X → X → Bool) where
     -- where the definition ends from the loop's state
-    unfoldable pub sunk : X → List X → ℕ → Sifted X
-    sunk x row hole = sink ordering moves (length row) x row hole
+    unfoldable pub sinking : X → List X → ℕ → Sifted X
+    sinking x row hole = sink ordering moves (length row) x row hole
 
     if_so : (b : Bool) (p q d : Sifted X) → (b ≡ true → p ≡ q) → cond b p d ≡ cond b q d
     if_so true p q d h = h refl
@@ -36,11 +36,6 @@ module _ {X : Type 0} (ordering : X → X → Ordering) where
 
     abbrev pub Child : List X → ℕ → ℕ → Type 0
     Child row hole c = (d : X) → c ≡ greater_child ordering d row hole
-
-    pub record Sinks : Type 0 where
-      pub ends : (x : X) (row : List X) (hole : ℕ) → length row / 2 ≤ hole → sunk x row hole ≡ put x row hole
-      pub rests : (x y : X) (row : List X) (hole c : ℕ) → hole < length row / 2 → Child row hole c → y ≡ get_or row c y → moves x y ≡ false → sunk x row hole ≡ put x row hole
-      pub turns : (x y : X) (row : List X) (hole c : ℕ) → hole < length row / 2 → Child row hole c → y ≡ get_or row c y → moves x y ≡ true → sunk x (set row hole y) c ≡ sunk x row hole
 
     ends_at : (f : ℕ) (x : X) (row : List X) (hole : ℕ) → length row / 2 ≤ hole → sink ordering moves f x row hole ≡ put x row hole
     unfolding sink
@@ -67,27 +62,20 @@ module _ {X : Type 0} (ordering : X → X → Ordering) where
           ∙ turns_from (length row) t
           ∙ any_fuel (suc (length row)) (length row) x row hole (omega arith) (omega arith)
 
-    pub sinks : Sinks
-    unfolding sunk
-    sinks = record {
-      ends = λ x row hole leaf. ends_at (length row) x row hole leaf;
-      rests = λ x y row hole c inner is read t. rests_at x y row hole c inner is read (length row) t;
-      turns = turns_at;
-    }
+    -- from the start of the loop
+    pub begins : (row : List X) (pos : ℕ) (x : X) → pos < length row → x ≡ get_or row pos x → sinking x row pos ≡ sunk ordering moves row pos
+    unfolding sunk sinking
+    begins [] pos x l e = absurd (omega arith)
+    begins (d ∷ ds) pos x l e = ap (λ v. sink ordering moves (length (d ∷ ds)) v (d ∷ ds) pos) (get_or_read (d ∷ ds) pos x l e d)
 
-  -- from the start of the loop
-  abbrev pub Downs : Type 0
-  Downs = (row : List X) (pos : ℕ) (x : X) → pos < length row → x ≡ get_or row pos x → sunk (below ordering) x row pos ≡ sift_down ordering row pos
+    pub ends : (x : X) (row : List X) (hole : ℕ) → length row / 2 ≤ hole → sinking x row hole ≡ put x row hole
+    unfolding sinking
+    ends x row hole leaf = ends_at (length row) x row hole leaf
 
-  pub downs : Downs
-  unfolding sift_down sunk
-  downs [] pos x l e = absurd (omega arith)
-  downs (d ∷ ds) pos x l e = ap (λ v. sink ordering (below ordering) (length (d ∷ ds)) v (d ∷ ds) pos) (get_or_read (d ∷ ds) pos x l e d)
+    pub rests : (x y : X) (row : List X) (hole c : ℕ) → hole < length row / 2 → Child row hole c → y ≡ get_or row c y → moves x y ≡ false → sinking x row hole ≡ put x row hole
+    unfolding sinking
+    rests x y row hole c inner is read t = rests_at x y row hole c inner is read (length row) t
 
-  abbrev pub Leaves : Type 0
-  Leaves = (row : List X) (pos : ℕ) (x : X) → pos < length row → x ≡ get_or row pos x → sunk (λ x child. true) x row pos ≡ sift_to_leaf ordering row pos
-
-  pub leaves : Leaves
-  unfolding sift_to_leaf sunk
-  leaves [] pos x l e = absurd (omega arith)
-  leaves (d ∷ ds) pos x l e = ap (λ v. sink ordering (λ x child. true) (length (d ∷ ds)) v (d ∷ ds) pos) (get_or_read (d ∷ ds) pos x l e d)
+    pub turns : (x y : X) (row : List X) (hole c : ℕ) → hole < length row / 2 → Child row hole c → y ≡ get_or row c y → moves x y ≡ true → sinking x (set row hole y) c ≡ sinking x row hole
+    unfolding sinking
+    turns x y row hole c inner is read t = turns_at x y row hole c inner is read t

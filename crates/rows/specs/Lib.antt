@@ -1,3 +1,4 @@
+pub mod Moves
 pub mod Sifts
 pub mod Rebuilds
 pub mod Heaps

@@ -1,5 +1,5 @@
 -- Putting a row in order, whole or from a position on.
-use Rattle.std.specs.Prelude.{ℕ, zero, suc, ◌+◌, ◌-◌, ◌*◌, ◌/◌, Bool, true, cond, List, length, nat_le, nat_lt}
+use Rattle.std.specs.Prelude.{ℕ, zero, suc, ◌+◌, ◌-◌, ◌*◌, ◌/◌, Bool, true, if◌then◌else◌, List, length, nat_le, nat_lt}
 use Rattle.std.specs.declared.cmp.Ordering.{Ordering}
 use Rattle.std.specs.Int.Count.{count_leading_zeros}
 use Rattle.rows.specs.Sifts.{sift_up, sift_down}
@@ -12,7 +12,9 @@ highest_bit n = 63 - count_leading_zeros 64 n
 abbrev pub rebuilds : ℕ → ℕ → Bool
 rebuilds start len =
     let tail : ℕ = len - start in
-    cond (nat_lt start tail) true (cond (nat_le len 2048) (nat_lt (2 * len) (tail * highest_bit start)) (nat_lt (2 * len) (11 * tail)))
+    if nat_lt start tail then true
+    else (if nat_le len 2048 then nat_lt (2 * len) (tail * highest_bit start)
+    else nat_lt (2 * len) (11 * tail))
 
 module _ {X : Type 0} (ordering : X → X → Ordering) where
   -- sift_down at each of the first n positions, the last first
@@ -31,5 +33,6 @@ module _ {X : Type 0} (ordering : X → X → Ordering) where
 
   abbrev pub tail_rebuilt : ℕ → List X → List X
   tail_rebuilt start row =
-      cond (nat_le (length row) start) row
-      (cond (rebuilds start (length row)) (rebuilt row) (sift_ups (length row - start) row start))
+      if nat_le (length row) start then row
+      else (if rebuilds start (length row) then rebuilt row
+      else sift_ups (length row - start) row start)

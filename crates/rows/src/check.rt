@@ -1,6 +1,8 @@
-ghost use Rattle.std.specs.Option.{MatchOption};
+ghost use Rattle.std.specs.Prelude.{◌≡◌, ◌<◌, length, MatchOption, slice_index_or};
+ghost use Rattle.elements.specs.Orders.{exceeds};
 ghost use Rattle.rows.specs.Checks.{FirstOutOfOrder};
 ghost use Rattle.rows.specs.Heaps.{Heaped};
+ghost use Rattle.rows.specs.Sifts.{parent};
 
 use elements::element::{Element, exceeds};
 
@@ -11,12 +13,14 @@ pub fn first_out_of_order<T: Element>(list: &[T]) -> Option<usize>
     if list.len() < 2 {
         return None;
     }
-    'row: for i in 1..list.len() {
-        let x = list[i];
-        let above = list[(i - 1) / 2];
-        if exceeds(&x, &above) {
-            return Some(i);
-        }
-    }
-    None
+    (1..list.len()).find(|&i| exceeds_parent(list, i))
+}
+
+fn exceeds_parent<T: Element>(list: &[T], i: usize) -> bool
+    requires { (0 < i) × (i < length list.now) }
+    ensures { (d : T) → result ≡ exceeds T.ordering (slice_index_or list.now i d) (slice_index_or list.now (parent i) d) }
+{
+    let x = list[i];
+    let above = list[(i - 1) / 2];
+    exceeds(&x, &above)
 }

@@ -4,6 +4,7 @@ ghost use Rattle.rows.specs.Rebuilds.{highest_bit, rebuilds, rebuilt, sift_ups, 
 use crate::sift::{sift_down, sift_up};
 use elements::element::Element;
 
+// `ilog2` would answer the same; by leading zeros it is the text of the Rust, whose choices it has to share.
 fn log2_fast(x: usize) -> usize
     requires { 0 < x }
     ensures is { result ≡ highest_bit x }
@@ -28,16 +29,16 @@ fn better_to_rebuild(start: usize, len: usize) -> bool
 }
 
 // Makes a heap of any row.
+#[tactic(auto, using(crate::proofs::Turns::downs))]
 pub fn rebuild<T: Element>(row: &mut [T])
     ensures { row.new ≡ rebuilt T.ordering row.old }
 {
-    let mut n = row.len() / 2;
-    'downs: while n > 0 {
-        n -= 1;
+    'downs: for n in (0..row.len() / 2).rev() {
         sift_down(row, n);
     }
 }
 
+#[tactic(auto, using(crate::proofs::Turns::ups))]
 fn sift_up_each<T: Element>(row: &mut [T], start: usize)
     requires { start ≤ length row.old }
     ensures { row.new ≡ sift_ups T.ordering (length row.old - start) row.old start }

@@ -1,10 +1,12 @@
-ghost use Rattle.std.specs.Prelude.{◌≡◌, ◌/◌, ◌<◌, length};
-ghost use Rattle.rows.specs.Sifts.{greater_child, sift_up, sift_down, sift_to_leaf, sift_down_to_bottom};
+ghost use Rattle.std.specs.Prelude.{◌≡◌, ◌/◌, ◌<◌, Bool, length};
+ghost use Rattle.rows.specs.Sifts.{greater_child, sift_up, sunk, sift_down, sift_to_leaf, sift_down_to_bottom};
+ghost use Rattle.rows.specs.Moves.{Computes};
 
 use elements::element::{Element, exceeds, is_below};
 
 // Takes out the value at `pos`, moves each parent that it exceeds down into the hole, not above
-// `start`, and puts it back; answers where.
+// `start`, and puts it back; answers where. The hole goes from parent to parent, which no range does.
+#[tactic(auto, using(crate::proofs::Rises::rises))]
 pub fn sift_up<T: Element>(row: &mut [T], start: usize, pos: usize) -> usize
     requires { pos < length row.old }
     ensures row { row.new ≡ (sift_up T.ordering row.old start pos).row }
@@ -46,36 +48,12 @@ fn greater_child<T: Element>(row: &[T], p: usize) -> usize
     left
 }
 
-// Takes out the value at `pos`, moves the greater child up into the hole while the value is below
-// it, and puts the value back; answers where.
-pub fn sift_down<T: Element>(row: &mut [T], pos: usize) -> usize
-    requires { pos < length row.old }
-    ensures row { row.new ≡ (sift_down T.ordering row.old pos).row }
-    ensures at { result ≡ (sift_down T.ordering row.old pos).at }
-{
-    let value = row[pos];
-    let mut hole = pos;
-    let at = 'sift: loop {
-        if hole >= row.len() / 2 {
-            break hole;
-        }
-        let child = greater_child(row, hole);
-        let under = row[child];
-        if !is_below(&value, &under) {
-            break hole;
-        }
-        row[hole] = under;
-        hole = child;
-    };
-    row[at] = value;
-    at
-}
-
-// As `sift_down`, down to a leaf whatever the value is.
-fn sift_to_leaf<T: Element>(row: &mut [T], pos: usize) -> usize
-    requires { pos < length row.old }
-    ensures row { row.new ≡ (sift_to_leaf T.ordering row.old pos).row }
-    ensures at { result ≡ (sift_to_leaf T.ordering row.old pos).at }
+// Takes out the value at `pos`, moves the greater child up into the hole while `moves` says so of
+// the value and that child, and puts the value back; answers where.
+fn sink<T: Element, F: Fn(&T, &T) -> bool>(row: &mut [T], pos: usize, moves: F) -> usize
+    requires pos { pos < length row.old }
+    requires moves { F.IsAlwaysCallable moves }
+    ensures sunk { (m : T → T → Bool) → Computes F.Fn moves m → record { row = row.new; at = result } ≡ sunk T.ordering m row.old pos }
     ensures within { result < length row.old }
 {
     let value = row[pos];
@@ -85,11 +63,34 @@ fn sift_to_leaf<T: Element>(row: &mut [T], pos: usize) -> usize
             break hole;
         }
         let child = greater_child(row, hole);
-        row[hole] = row[child];
+        let under = row[child];
+        if !moves(&value, &under) {
+            break hole;
+        }
+        row[hole] = under;
         hole = child;
     };
     row[at] = value;
     at
+}
+
+// Lets the greater child move up while the value is below it.
+pub fn sift_down<T: Element>(row: &mut [T], pos: usize) -> usize
+    requires { pos < length row.old }
+    ensures row { row.new ≡ (sift_down T.ordering row.old pos).row }
+    ensures at { result ≡ (sift_down T.ordering row.old pos).at }
+{
+    sink(row, pos, |value, child| is_below(value, child))
+}
+
+// Lets it move up whatever the value is.
+fn sift_to_leaf<T: Element>(row: &mut [T], pos: usize) -> usize
+    requires { pos < length row.old }
+    ensures row { row.new ≡ (sift_to_leaf T.ordering row.old pos).row }
+    ensures at { result ≡ (sift_to_leaf T.ordering row.old pos).at }
+    ensures within { result < length row.old }
+{
+    sink(row, pos, |_, _| true)
 }
 
 // Takes the value at `pos` down to a leaf and from there back up, at most to `pos`: fewer

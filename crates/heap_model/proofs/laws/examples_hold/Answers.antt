@@ -1,7 +1,7 @@
 use Rattle.std.proofs.Common.{rules}
 use Rattle.std.proofs.lemmas.List.Elements.{All-from_recursion}
 use lib.Count.{count_leading_zeros}
-use Rattle.rows.specs.Sifts.{rise, sink, sift_up, sift_down, sift_to_leaf}
+use Rattle.rows.specs.Sifts.{rise, sink, sift_up, sunk}
 use Rattle.rows.specs.Rebuilds.{sift_downs, sift_ups}
 use Rattle.heap_model.specs.Calls.{full, pushed_row, pushed, popped_row, popped}
 use Rattle.heap_model.specs.Edits.{front_set, settled_row, settled, refresh_answer}
@@ -11,5 +11,5 @@ use Rattle.heap_model.specs.Examples.{Holds, examples}
 use Rattle.heap_model.proofs.laws.examples_hold.Goals as goal
 
 pub returns : goal.returns
-unfolding count_leading_zeros rise sink sift_up sift_down sift_to_leaf sift_downs sift_ups full pushed_row pushed popped_row popped taken extend_answer extended_row extended appended_row appended retained_row retained front_set settled_row settled refresh_answer
+unfolding count_leading_zeros rise sink sift_up sunk sift_downs sift_ups full pushed_row pushed popped_row popped taken extend_answer extended_row extended appended_row appended retained_row retained front_set settled_row settled refresh_answer
 returns c = All-from_recursion Holds examples (search rules)

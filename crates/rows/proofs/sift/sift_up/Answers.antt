@@ -1,6 +1,6 @@
-use Rattle.std.proofs.Common.{refl, arith}
-use Rattle.rows.proofs.Rises.{rises}
+use Rattle.std.proofs.Common.{rules}
+use Rattle.rows.proofs.Rises.{moves}
 use Rattle.rows.proofs.sift.sift_up.Goals as goal
 
-pub sift-init : goal.sift-init
-sift-init g c = (omega arith, refl, rises _)
+pub sift-preserved : goal.sift-preserved
+sift-preserved g c = (search rules, search (rules, moves))
