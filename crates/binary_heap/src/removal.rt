@@ -10,7 +10,7 @@ ghost use Rattle.binary_heap.specs.Heaps.{held, row_of, HoldsOn};
 use crate::BinaryHeap;
 use elements::element::Element;
 use heap_model::fault::HeapFault;
-use keepers::close_up::close_up;
+use keepers::close_up::{Closed, close_up};
 use keepers::keeper::Keeper;
 use rows::rebuild::rebuild_tail;
 
@@ -62,10 +62,9 @@ fn retain_row<T: Element, K: Keeper<T>>(row: &mut [T], keeper: &mut K) -> usize
     ensures row { row.new ≡ retained_row T.ordering (asked K.step (K.holds keeper.old)) row.old ++ drop result row.old }
     ensures keeper { K.holds keeper.new ≡ holds_through K.step (K.holds keeper.old) row.old }
 {
-    let closed = close_up(row, keeper);
-    let count = closed.count;
-    if count < row.len() {
-        rebuild_tail(&mut row[0..count], closed.first);
+    let Closed { count, first } = close_up(row, keeper);
+    if let Some(first) = first {
+        rebuild_tail(&mut row[0..count], first);
     }
     count
 }

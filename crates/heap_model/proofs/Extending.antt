@@ -4,23 +4,11 @@ use Rattle.std.proofs.Math.Seq.{take-append-add, drop-append-add}
 use Rattle.std.proofs.lemmas.List.{take_at, drop_at, drop-drop}
 use Rattle.rows.proofs.Bags.{length_perm}
 use Rattle.rows.proofs.Rebuilding.{tail_perm}
-use Rattle.supplies.specs.Fills.{filled}
-use Rattle.supplies.proofs.Filling.{filled-leaves}
 use Rattle.heap_model.specs.Growth.{extended_row}
 
 pub extended_long : {X : Type 0} (ordering : X → X → Ordering) (row more : List X) → length (extended_row ordering row more) ≡ length row + length more
 unfolding extended_row
 extended_long ordering row more = sym (length_perm (tail_perm ordering (length row) (row ++ more))) ∙ length-append row more
-
-module _ {X : Type 0} (places rest : List X) where
-  pub filled_count : (filled (length places) 0 places rest).count ≡ min (length places) (length rest)
-  filled_count = (filled-leaves (length places) 0 places rest (omega arith)).count_is ∙ omega arith
-
-  pub filled_places : (filled (length places) 0 places rest).places ≡ take (min (length places) (length rest)) rest ++ drop (min (length places) (length rest)) places
-  filled_places = (filled-leaves (length places) 0 places rest (omega arith)).places_is ∙ ap (λ n. take (min (length places) (length rest)) rest ++ drop n places) (omega arith)
-
-  pub filled_rest : (filled (length places) 0 places rest).rest ≡ drop (min (length places) (length rest)) rest
-  filled_rest = (filled-leaves (length places) 0 places rest (omega arith)).rest_is
 
 module _ {X : Type 0} (xs ys : List X) (n : ℕ) (l : length xs ≤ n) where
   pub take_past : take n (xs ++ ys) ≡ xs ++ take (n - length xs) ys
@@ -29,4 +17,4 @@ module _ {X : Type 0} (xs ys : List X) (n : ℕ) (l : length xs ≤ n) where
   pub drop_past : drop n (xs ++ ys) ≡ drop (n - length xs) ys
   drop_past = ap (λ m. drop m (xs ++ ys)) (omega arith) ∙ drop-append-add xs ys (n - length xs)
 
-pub ruleset fills = (filled_count, filled_places, filled_rest, take_past, drop_past, take_at, drop_at, drop-drop, length-take)
+pub ruleset fills = (take_past, drop_past, take_at, drop_at, drop-drop, length-take)

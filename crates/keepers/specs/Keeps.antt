@@ -1,5 +1,5 @@
 -- What a keeper makes of a row. `says past x` is its answer to x once the past, the latest first, was put to it.
-use Rattle.std.specs.Prelude.{ℕ, zero, suc, Bool, cond, List, [], ◌∷◌}
+use Rattle.std.specs.Prelude.{ℕ, zero, suc, Bool, if◌then◌else◌, List, [], ◌∷◌}
 use Rattle.keepers.specs.Steps.{Said}
 
 module _ {H X : Type 0} (step : H → X → Said H) (h : H) where
@@ -15,17 +15,17 @@ module _ {X : Type 0} (says : List X → X → Bool) where
   -- those with a yes, in order
   abbrev pub kept : List X → List X → List X
   kept past [] = []
-  kept past (x ∷ xs) = cond (says past x) (x ∷ kept (x ∷ past) xs) (kept (x ∷ past) xs)
+  kept past (x ∷ xs) = if says past x then x ∷ kept (x ∷ past) xs else kept (x ∷ past) xs
 
   -- those with a no, in order
   abbrev pub dropped : List X → List X → List X
   dropped past [] = []
-  dropped past (x ∷ xs) = cond (says past x) (dropped (x ∷ past) xs) (x ∷ dropped (x ∷ past) xs)
+  dropped past (x ∷ xs) = if says past x then dropped (x ∷ past) xs else x ∷ dropped (x ∷ past) xs
 
   -- the position of the first with a no, or the length
   abbrev pub first_no : List X → List X → ℕ
   first_no past [] = zero
-  first_no past (x ∷ xs) = cond (says past x) (suc (first_no (x ∷ past) xs)) zero
+  first_no past (x ∷ xs) = if says past x then suc (first_no (x ∷ past) xs) else zero
 
 module _ {H X : Type 0} (step : H → X → Said H) where
   -- what the keeper holds once the whole row was put to it

@@ -1,23 +1,20 @@
-ghost use Rattle.std.specs.Prelude.{◌≡◌, ◌≤◌, length};
-ghost use Rattle.supplies.specs.Fills.{filled};
+ghost use Rattle.std.specs.Prelude.{◌≡◌, ◌≤◌, min, ◌++◌, length, take, drop};
 
 use crate::supply::Supply;
 
 // Writes what the supply has into the places, from the first on, while both last; answers how many.
+#[tactic(auto, using(crate::proofs::Filling::fills))]
 pub fn fill<T: Copy, S: Supply<T>>(places: &mut [T], supply: &mut S) -> usize
-    ensures count { result ≡ (filled (length places.old) 0 places.old (S.rest supply.old)).count }
-    ensures places { places.new ≡ (filled (length places.old) 0 places.old (S.rest supply.old)).places }
-    ensures rest { S.rest supply.new ≡ (filled (length places.old) 0 places.old (S.rest supply.old)).rest }
+    ensures count { result ≡ min (length places.old) (length (S.rest supply.old)) }
+    ensures places { places.new ≡ take result (S.rest supply.old) ++ drop result places.old }
+    ensures rest { S.rest supply.new ≡ drop result (S.rest supply.old) }
     ensures within { result ≤ length places.old }
 {
-    let free = places.len();
-    let mut count = 0;
-    'filling: while count < free && supply.more() {
+    'filling: for (i, place) in places.iter_mut().enumerate() {
         let Some(x) = supply.next() else {
-            break;
+            return i;
         };
-        places[count] = x;
-        count += 1;
+        *place = x;
     }
-    count
+    places.len()
 }

@@ -1,5 +1,4 @@
-ghost use Rattle.std.specs.Prelude.{◌≡◌, replicate, nat_lt};
-ghost use Rattle.supplies.specs.Nexts.{Repeats};
+ghost use Rattle.std.specs.Prelude.{◌≡◌, replicate};
 
 use crate::supply::Supply;
 
@@ -16,27 +15,17 @@ impl<T: Copy> Repeat<T> {
     {
         Repeat { value, left: count }
     }
-
-    fn some_left(&self) -> bool
-        ensures test { result ≡ nat_lt 0 self.now.left }
-        ensures laws { Repeats T }
-    {
-        self.left > 0
-    }
 }
 
 impl<T: Copy> Supply<T> for Repeat<T> {
     ghost rest = { λ s. replicate s.left s.value };
 
     fn more(&self) -> bool {
-        self.some_left()
+        self.left > 0
     }
 
     fn next(&mut self) -> Option<T> {
-        if !self.some_left() {
-            return None;
-        }
-        self.left -= 1;
+        self.left = self.left.checked_sub(1)?;
         Some(self.value)
     }
 }

@@ -1,6 +1,7 @@
 ghost use Rattle.std.specs.Prelude.{◌≡◌, List, [], ◌∷◌, length, MatchOption, nat_lt};
 
-// Hands elements out one by one. `rest` is the list of those still to come.
+// Hands elements out one by one. `rest` is the list of those still to come. Unlike an `Iterator`, it
+// says whether any is left without taking it.
 pub trait Supply<T> {
     ghost rest: { Self → List T };
 

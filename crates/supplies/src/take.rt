@@ -1,5 +1,4 @@
-ghost use Rattle.std.specs.Prelude.{◌≡◌, take, nat_lt};
-ghost use Rattle.supplies.specs.Nexts.{Takes};
+ghost use Rattle.std.specs.Prelude.{◌≡◌, take};
 
 use crate::supply::Supply;
 
@@ -21,25 +20,16 @@ impl<S> Take<S> {
     }
 }
 
-fn some_left<T>(left: usize) -> bool
-    ensures test { result ≡ nat_lt 0 left }
-    ensures laws { Takes T }
-{
-    left > 0
-}
-
 impl<T: Copy, S: Supply<T>> Supply<T> for Take<S> {
     ghost rest = { λ s. take s.left (S.Supply.rest s.supply) };
 
     fn more(&self) -> bool {
-        some_left::<T>(self.left) && self.supply.more()
+        self.left > 0 && self.supply.more()
     }
 
+    #[tactic(auto, using(crate::proofs::Nexts::take_next))]
     fn next(&mut self) -> Option<T> {
-        if !some_left::<T>(self.left) {
-            return None;
-        }
-        self.left -= 1;
+        self.left = self.left.checked_sub(1)?;
         self.supply.next()
     }
 }
