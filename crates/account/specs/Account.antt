@@ -1,5 +1,5 @@
 -- The account of a heap over its whole life.
-use Rattle.std.specs.Prelude.{◌≡◌, ℕ, suc, ◌+◌, ◌≤◌, Bool, true, false, cond, not, ◌↔◌, List, [], ◌∷◌, ◌++◌, length, Some, None, All, Contains}
+use Rattle.std.specs.Prelude.{◌≡◌, ℕ, suc, ◌+◌, ◌≤◌, Bool, true, false, if◌then◌else◌, not, ◌↔◌, List, [], ◌∷◌, ◌++◌, length, Some, None, All, Contains}
 use Rattle.std.specs.declared.cmp.Ordering.{Ordering}
 use mathlib.Core.List.{Perm}
 use Rattle.elements.specs.Orders.{exceeds, below}
@@ -14,7 +14,7 @@ use Rattle.account.specs.Lives.Phase.{shut}
 -- how many of a list a test says yes to
 abbrev pub times : {X : Type 0} → (X → Bool) → List X → ℕ
 times is [] = 0
-times is (x ∷ xs) = cond (is x) (suc (times is xs)) (times is xs)
+times is (x ∷ xs) = if is x then suc (times is xs) else times is xs
 
 module _ {X : Type 0} (ordering : X → X → Ordering) where
   abbrev pub AllBelow : X → List X → Type 0

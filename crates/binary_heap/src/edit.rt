@@ -1,5 +1,6 @@
 // An edit of the front: the heap is moved into it, and comes out again by `close` or `pop`.
 ghost use Rattle.std.specs.Prelude.{◌≡◌, Some, None, MatchOption};
+ghost use Rattle.std.specs.Option.{option_copied};
 ghost use Rattle.elements.specs.Refusals.{told};
 ghost use Rattle.rows.specs.Sifts.{sift_down};
 ghost use Rattle.heap_model.specs.Calls.{front, popped};
@@ -14,7 +15,8 @@ use elements::element::Element;
 use heap_model::fault::HeapFault;
 use rows::sift::sift_down;
 
-// `exposed` where the front was written since it was last put in order.
+// `exposed` where the front was written since it was last put in order; a flag, since `refresh` may be
+// asked of any edit.
 #[derive(Drop)]
 pub struct PeekMut<'a, T> {
     heap: BinaryHeap<'a, T>,
@@ -47,7 +49,7 @@ impl<'a, T: Element> BinaryHeap<'a, T> {
 
 impl<'a, T: Element> PeekMut<'a, T> {
     pub fn peek(&self) -> Option<&T>
-        ensures { MatchOption result (front (edited self.now).heap.row ≡ None) (λ x. front (edited self.now).heap.row ≡ Some x.now) }
+        ensures { option_copied result ≡ front (edited self.now).heap.row }
     {
         self.heap.peek()
     }
@@ -91,7 +93,8 @@ impl<'a, T: Element> PeekMut<'a, T> {
         heap
     }
 
-    // Writes the front into `place`, if there is one, and into `wrote` whether it did.
+    // Writes the front into `place`, if there is one, and into `wrote` whether it did. Both are lent, as
+    // all memory of a box is.
     pub fn pop(self, place: &mut T, wrote: &mut bool) -> BinaryHeap<'a, T>
         ensures heap { HoldsOn self.entry.heap.memory result (popped T.ordering (edited self.entry).heap) }
         ensures place { place.new ≡ place_after (edited self.entry).heap.row place.old }

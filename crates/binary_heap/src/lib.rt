@@ -1,9 +1,10 @@
 #![tactic(auto)]
 
-ghost use Rattle.std.specs.Prelude.{◌≡◌, ◌+◌, ◌-◌, ◌<◌, ◌≤◌, ◌++◌, length, take, drop, Some, None, MatchOption, MatchResult, ◌==◌};
+ghost use Rattle.std.specs.Prelude.{◌≡◌, ◌+◌, ◌-◌, ◌<◌, ◌≤◌, ◌++◌, length, take, drop, Some, MatchResult, ◌==◌, slice_get};
+ghost use Rattle.std.specs.Option.{option_copied};
 ghost use Rattle.account.specs.Account.{Promise};
 ghost use Rattle.elements.specs.Refusals.{told};
-ghost use Rattle.heap_model.specs.Calls.{item_at, front, reserve_answer, pushed_row, pushed, push_answer, popped_row, popped, pop_answer};
+ghost use Rattle.heap_model.specs.Calls.{front, reserve_answer, pushed_row, pushed, push_answer, popped_row, popped, pop_answer};
 ghost use Rattle.heap_model.specs.Faults.{refuses_row, refuses_heap};
 ghost use Rattle.heap_model.specs.Held.{places, empty_on};
 ghost use Rattle.binary_heap.specs.Heaps.{held, row_of, HoldsOn};
@@ -19,7 +20,8 @@ mod removal;
 
 const MOST_PLACES: usize = 1_048_576;
 
-// A priority queue on lent memory: its row is the first `len` places, the greatest element in front.
+// A priority queue on lent memory, which no call enlarges: its row is the first `len` places, the
+// greatest element in front.
 #[derive(Drop)]
 pub struct BinaryHeap<'a, T> {
     memory: &'a mut [T],
@@ -56,13 +58,13 @@ impl<'a, T: Element> BinaryHeap<'a, T> {
     }
 
     pub fn get(&self, position: usize) -> Option<&T>
-        ensures { MatchOption result (item_at (row_of self.now) position ≡ None) (λ x. item_at (row_of self.now) position ≡ Some x.now) }
+        ensures { option_copied result ≡ slice_get (row_of self.now) position }
     {
         self.row().get(position)
     }
 
     pub fn peek(&self) -> Option<&T>
-        ensures { MatchOption result (front (row_of self.now) ≡ None) (λ x. front (row_of self.now) ≡ Some x.now) }
+        ensures { option_copied result ≡ front (row_of self.now) }
     {
         self.row().first()
     }
@@ -108,12 +110,9 @@ impl<'a, T: Element> BinaryHeap<'a, T> {
         ensures heap { HoldsOn self.old.memory self.new (popped T.ordering (held self.old)) }
         ensures answer { result ≡ pop_answer (held self.old) }
     {
-        let n = self.len();
-        if n == 0 {
-            return None;
-        }
-        let first = take_front(&mut self.memory[0..n]);
-        self.len = n - 1;
+        let last = self.len().checked_sub(1)?;
+        let first = take_front(&mut self.memory[0..last + 1]);
+        self.len = last;
         Some(first)
     }
 }

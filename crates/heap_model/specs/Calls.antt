@@ -1,5 +1,5 @@
 -- What each call leaves and answers, of what the heap holds.
-use Rattle.std.specs.Prelude.{ℕ, ◌+◌, ◌-◌, ◌^◌, Bool, cond, List, [], ◌∷◌, ◌++◌, length, take, drop, Some, None, Option, nat_le, nat_lt, slice_index_or, slice_set}
+use Rattle.std.specs.Prelude.{ℕ, ◌+◌, ◌-◌, ◌^◌, Bool, if◌then◌else◌, List, [], ◌∷◌, ◌++◌, length, take, drop, Some, None, Option, nat_le, nat_lt, slice_index_or, slice_set}
 use Rattle.std.specs.declared.cmp.Ordering.{Ordering}
 use Rattle.elements.specs.Refusals.{Answer, by, by_with}
 use Rattle.elements.specs.Refusals.Answer.{accepted, refused}
@@ -9,9 +9,6 @@ use Rattle.heap_model.specs.Held.{Held, places, leave}
 abbrev pub front : {X : Type 0} → List X → Option X
 front [] = None
 front (x ∷ xs) = Some x
-
-abbrev pub item_at : {X : Type 0} → List X → ℕ → Option X
-item_at row i = front (drop i row)
 
 module _ {X : Type 0} where
   -- whether n more find a place
@@ -24,14 +21,15 @@ module _ {X : Type 0} where
 
   unfoldable pub reserve_answer : ℕ → Held X → Answer (Unit {0})
   reserve_answer additional h =
-      cond (fits additional h) (accepted tt)
-      (cond (nat_lt (2 ^ 64 - 1) (length h.row + additional)) (refused (by 1)) (refused (by_with 2 (missing additional h))))
+      if fits additional h then accepted tt
+      else (if nat_lt (2 ^ 64 - 1) (length h.row + additional) then refused (by 1)
+      else refused (by_with 2 (missing additional h)))
 
   unfoldable pub full : Held X → Bool
   full h = nat_le (places h) (length h.row)
 
   unfoldable pub push_answer : Held X → Answer (Unit {0})
-  push_answer h = cond (full h) (refused (by_with 2 1)) (accepted tt)
+  push_answer h = if full h then refused (by_with 2 1) else accepted tt
 
   abbrev pub pop_answer : Held X → Option X
   pop_answer h = front h.row
@@ -39,7 +37,7 @@ module _ {X : Type 0} where
   -- the front, if there is one and the keeper says yes to it
   abbrev pub allowed : (X → Bool) → Option X → Option X
   allowed says None = None
-  allowed says (Some x) = cond (says x) (Some x) None
+  allowed says (Some x) = if says x then Some x else None
 
   abbrev pub pop_if_answer : (X → Bool) → Held X → Option X
   pop_if_answer says h = allowed says (front h.row)
@@ -48,21 +46,21 @@ module _ {X : Type 0} where
   cleared h = leave [] h
 
   unfoldable pub drain_answer : ℕ → Held X → Answer ℕ
-  drain_answer room h = cond (nat_le (length h.row) room) (accepted (length h.row)) (refused (by 5))
+  drain_answer room h = if nat_le (length h.row) room then accepted (length h.row) else refused (by 5)
 
   unfoldable pub drained : ℕ → Held X → Held X
-  drained room h = cond (nat_le (length h.row) room) (cleared h) h
+  drained room h = if nat_le (length h.row) room then cleared h else h
 
   -- the lent list after a drain of this row
   unfoldable pub drained_to : List X → List X → List X
-  drained_to row list = cond (nat_le (length row) (length list)) (row ++ drop (length row) list) list
+  drained_to row list = if nat_le (length row) (length list) then row ++ drop (length row) list else list
 
 module _ {X : Type 0} (ordering : X → X → Ordering) where
   unfoldable pub pushed_row : X → List X → List X
   pushed_row x row = (sift_up ordering (row ++ (x ∷ [])) 0 (length row)).row
 
   unfoldable pub pushed : X → Held X → Held X
-  pushed x h = cond (full h) h (leave (pushed_row x h.row) h)
+  pushed x h = if full h then h else leave (pushed_row x h.row) h
 
   -- the last element leaves the row d ∷ ds and, if it was not alone, replaces the front
   abbrev pub last_in_front : X → List X → List X

@@ -1,5 +1,5 @@
 -- What an edit of the front holds, and what its calls leave and answer.
-use Rattle.std.specs.Prelude.{Bool, true, false, cond, not, ◌&&◌, ◌||◌, List, [], ◌∷◌, length, ◌==◌, nat_lt, slice_set}
+use Rattle.std.specs.Prelude.{Bool, true, false, if◌then◌else◌, not, ◌&&◌, ◌||◌, List, [], ◌∷◌, length, ◌==◌, nat_lt, slice_set}
 use Rattle.std.specs.declared.cmp.Ordering.{Ordering}
 use Rattle.elements.specs.Refusals.{Answer, by}
 use Rattle.elements.specs.Refusals.Answer.{accepted, refused}
@@ -16,7 +16,7 @@ module _ {X : Type 0} where
   opened h = record { heap = h; exposed = false }
 
   unfoldable pub set_answer : Edited X → Answer (Unit {0})
-  set_answer e = cond (length e.heap.row == 0) (refused (by 4)) (accepted tt)
+  set_answer e = if length e.heap.row == 0 then refused (by 4) else accepted tt
 
   -- the front written over, and the edit marked where there is anything that it could be out of order with
   unfoldable pub front_set : X → Edited X → Edited X
@@ -33,7 +33,7 @@ module _ {X : Type 0} where
 
 module _ {X : Type 0} (ordering : X → X → Ordering) where
   unfoldable pub settled_row : Bool → List X → List X
-  settled_row exposed row = cond exposed (sift_down ordering row 0).row row
+  settled_row exposed row = if exposed then (sift_down ordering row 0).row else row
 
   unfoldable pub settled : Edited X → Held X
   settled e = leave (settled_row e.exposed e.heap.row) e.heap

@@ -1,4 +1,4 @@
-// What an accepted record answers. Elements stand at the front of a lent list, which the line is printed from.
+// What an accepted record answers. Elements stand at the front of a lent list, so that no reply owns memory.
 #[derive(Clone, Copy)]
 pub enum Reply<T> {
     Done,

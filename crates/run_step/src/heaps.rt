@@ -42,7 +42,8 @@ impl<'a, K: Kind> Heaps<'a, K> {
     }
 }
 
-// The answer stands first, since what makes it may still act on the heap in place.
+// The answer stands first, since what makes it may still act on the heap in place. Two functions, so
+// that no arm of the step names the state that it leaves.
 pub(crate) fn at_rest<'a, T>(
     answer: Result<Reply<T>, RecordFault>,
     heap: BinaryHeap<'a, T>,
