@@ -3,12 +3,13 @@
 // handed out.
 #![tactic(auto)]
 
-ghost use Rattle.std.specs.Prelude.{◌≡◌, not, [], length, IfOk, ◌==◌};
-ghost use Rattle.elements.specs.Clauses.{made, refuses_clause, by_rank};
+ghost use Rattle.std.specs.Prelude.{◌≡◌, [], length, IfOk};
+ghost use Rattle.elements.specs.Clauses.{refuses_clause, by_rank};
 ghost use Rattle.elements.specs.Refusals.{told};
 ghost use Rattle.elements.specs.Refusals.Answer.{accepted};
 ghost use Rattle.heap_model.specs.Calls.{front};
-ghost use Rattle.heap_model.specs.Edits.{opened, front_set, settled};
+ghost use Rattle.heap_model.specs.Faults.{refuses_heap};
+ghost use Rattle.heap_model.specs.Edits.{opened, front_set, set_answer, settled};
 ghost use Rattle.binary_heap.specs.Heaps.{held};
 ghost use Rattle.morning.specs.Arrivals.{refuses_arrival, arrival_answer, arrived, number_of, standing_clauses};
 ghost use Rattle.morning.specs.declared.ArrivalFault.TheVariants.{Clause as OfClause, Heap as OfHeap};
@@ -24,7 +25,7 @@ use supplies::lent::Lent;
 // Clauses of a higher rank are withdrawn at noon.
 const NOON_RANK: u16 = 7;
 
-// rank, number, discount in per mille
+// rank, number, discount in per mille: taken apart at once, since only `Clause::new` makes a clause
 const ARRIVALS: [(u16, u32, u16); 7] = [
     (3, 101, 50),
     (7, 102, 120),
@@ -36,7 +37,7 @@ const ARRIVALS: [(u16, u32, u16); 7] = [
 ];
 
 // Why an arriving clause was turned away.
-#[derive(Clone, Copy)]
+#[derive(Clone, Copy, Debug, PartialEq, Eq)]
 enum ArrivalFault {
     Clause(ClauseFault),
     Heap(HeapFault),
@@ -79,26 +80,22 @@ impl fmt::Display for ArrivalFault {
     }
 }
 
+// Takes in a clause that could be made.
 fn arrive(
     heap: &mut BinaryHeap<'_, Clause>,
-    rank: u16,
-    number: u32,
-    discount: u16,
+    made: Result<Clause, ClauseFault>,
 ) -> Result<(), ArrivalFault>
-    ensures answer { told refuses_arrival result ≡ arrival_answer (made rank number discount) (held heap.old) }
-    ensures heap { held heap.new ≡ arrived (made rank number discount) (held heap.old) }
+    ensures answer { told refuses_arrival result ≡ arrival_answer (told refuses_clause made) (held heap.old) }
+    ensures heap { held heap.new ≡ arrived (told refuses_clause made) (held heap.old) }
 {
-    heap.push(Clause::new(rank, number, discount)?)?;
+    heap.push(made?)?;
     Ok(())
 }
 
 fn front_number(heap: &BinaryHeap<'_, Clause>) -> Option<u32>
     ensures { result ≡ number_of (front (held heap.now).row) }
 {
-    match heap.peek() {
-        Some(clause) => Some(clause.number()),
-        None => None,
-    }
+    heap.peek().map(|clause| clause.number())
 }
 
 // Shows the front if it is another than the one shown before; answers which it is.
@@ -119,6 +116,7 @@ fn show_front(
 }
 
 // Hands all clauses out, the front first; answers how many there were.
+#[tactic(auto, using(crate::proofs::Counts::counts), unfolding(heap_model::specs::Calls::popped))]
 fn hand_out(rt: &HostRuntime, heap: &mut BinaryHeap<'_, Clause>) -> io::Result<usize>
     ensures { IfOk result (λ count. (count ≡ length (held heap.old).row) × ((held heap.new).row ≡ [])) }
 {
@@ -144,19 +142,17 @@ fn standing() -> Result<[Clause; 3], ClauseFault>
     ])
 }
 
-// Writes another clause over the front and puts the row in order; answers whether there was a front.
-fn correct<'a>(
-    heap: BinaryHeap<'a, Clause>,
+// Writes another clause over the front, if there is one, and puts the row in order.
+fn correct(
+    heap: BinaryHeap<'_, Clause>,
     clause: Clause,
-    done: &mut bool,
-) -> BinaryHeap<'a, Clause>
-    ensures heap { held result ≡ settled by_rank (front_set clause (opened (held heap.entry))) }
-    ensures done { done.new ≡ not (length (held heap.entry).row == 0) }
+) -> (BinaryHeap<'_, Clause>, Result<(), HeapFault>)
+    ensures heap { held result.0 ≡ settled by_rank (front_set clause (opened (held heap.entry))) }
+    ensures answer { told refuses_heap result.1 ≡ set_answer (opened (held heap.entry)) }
 {
-    *done = !heap.is_empty();
     let mut edit = heap.peek_mut();
-    let _ = edit.set(clause);
-    edit.close()
+    let answer = edit.set(clause);
+    (edit.close(), answer)
 }
 
 fn main(rt: HostRuntime) -> io::Result<()> {
@@ -178,7 +174,7 @@ fn main(rt: HostRuntime) -> io::Result<()> {
     }
     let mut shown = show_front(&rt, &heap, None)?;
     for (rank, number, discount) in ARRIVALS {
-        match arrive(&mut heap, rank, number, discount) {
+        match arrive(&mut heap, Clause::new(rank, number, discount)) {
             Ok(()) => println!(rt; "clause {number} of rank {rank}: accepted")?,
             Err(fault) => println!(rt; "clause {number} of rank {rank}: {fault}")?,
         }
@@ -188,9 +184,8 @@ fn main(rt: HostRuntime) -> io::Result<()> {
     let left = heap.len();
     println!(rt; "noon: {left} clauses left, of rank {NOON_RANK} or less")?;
     shown = show_front(&rt, &heap, shown)?;
-    let mut corrected = false;
-    let mut heap = correct(heap, lowered, &mut corrected);
-    if corrected {
+    let (mut heap, corrected) = correct(heap, lowered);
+    if corrected.is_ok() {
         println!(rt; "the front was corrected, and is of rank 4 now")?;
     }
     show_front(&rt, &heap, shown)?;
