@@ -6,7 +6,8 @@
 mod tests {
     use binary_heap::BinaryHeap;
     use elements::clause::Clause;
-    use elements::refusal::Fault;
+    use elements::refusal::{Fault, Refusal};
+    use keepers::ceiling::Ceiling;
     use keepers::ration::Ration;
     use rows::check::first_out_of_order;
     use std::cmp::Reverse;
@@ -16,19 +17,15 @@ mod tests {
     use supplies::supply::Supply;
 
     #[test]
-    fn no_memory(rt: HostRuntime) -> Result<(), Fail> {
+    fn no_memory(rt: HostRuntime) {
         let mut places: [u64; 0] = [];
         let mut heap = BinaryHeap::new(&mut places);
         assert_eq!(rt; heap.capacity(), 0);
         assert!(rt; heap.is_empty());
         assert!(rt; heap.pop().is_none());
         assert!(rt; heap.peek().is_none());
-        let Err(fault) = heap.push(7) else {
-            return Err(Fail::new("a push found a place"));
-        };
-        assert_eq!(rt; fault.refusal().number, 2);
-        assert_eq!(rt; fault.refusal().carries, Some(1));
-        Ok(())
+        let refusal = heap.push(7).err().map(|fault| fault.refusal());
+        assert_eq!(rt; refusal, Some(Refusal::by_with(2, 1)));
     }
 
     #[test]
@@ -73,26 +70,27 @@ mod tests {
     }
 
     #[test]
-    fn room_is_told_in_places(rt: HostRuntime) -> Result<(), Fail> {
+    fn room_is_told_in_places(rt: HostRuntime) {
         let mut places = [0u64; 4];
         let mut heap = BinaryHeap::new(&mut places);
         assert!(rt; heap.push(1).is_ok());
         assert!(rt; heap.try_reserve(3).is_ok());
-        let Err(fault) = heap.try_reserve(5) else {
-            return Err(Fail::new("six elements in four places"));
-        };
-        assert_eq!(rt; fault.refusal().number, 2);
-        assert_eq!(rt; fault.refusal().carries, Some(2));
-        let Err(fault) = heap.try_reserve(usize::MAX) else {
-            return Err(Fail::new("2 to the 64th in four places"));
-        };
-        assert_eq!(rt; fault.refusal().number, 1);
-        assert_eq!(rt; fault.refusal().carries, None);
-        let Err(fault) = heap.try_reserve(usize::MAX - 1) else {
-            return Err(Fail::new("2 to the 64th less one in four places"));
-        };
-        assert_eq!(rt; fault.refusal().number, 2);
-        Ok(())
+        let refusal = heap.try_reserve(5).err().map(|fault| fault.refusal());
+        assert_eq!(rt; refusal, Some(Refusal::by_with(2, 2)));
+        let refusal = heap
+            .try_reserve(usize::MAX)
+            .err()
+            .map(|fault| fault.refusal());
+        assert_eq!(rt; refusal, Some(Refusal::by(1)), "2 to the 64th");
+        let refusal = heap
+            .try_reserve(usize::MAX - 1)
+            .err()
+            .map(|fault| fault.refusal());
+        assert_eq!(rt;
+            refusal.map(|refusal| refusal.number),
+            Some(2),
+            "2 to the 64th less one"
+        );
     }
 
     #[test]
@@ -129,34 +127,28 @@ mod tests {
     }
 
     #[test]
-    fn adopt_reads_what_lies_behind_the_row(rt: HostRuntime) -> Result<(), Fail> {
+    fn adopt_reads_what_lies_behind_the_row(rt: HostRuntime) {
         let mut places = [0u64; 3];
         let mut heap = BinaryHeap::new(&mut places);
         assert!(rt; heap.push(7).is_ok() && heap.push(9).is_ok());
-        let Err(fault) = heap.adopt(4) else {
-            return Err(Fail::new("adopted over a row"));
-        };
-        assert_eq!(rt; fault.refusal().number, 3);
+        let refusal = heap.adopt(4).err().map(|fault| fault.refusal());
+        assert_eq!(rt; refusal, Some(Refusal::by(3)));
         assert_eq!(rt; heap.pop(), Some(9));
         heap.clear();
         assert!(rt; heap.adopt(4).is_err());
         assert!(rt; heap.adopt(2).is_ok());
         assert_eq!(rt; heap.get(1).copied(), Some(7), "the place that 7 left");
-        Ok(())
     }
 
     #[test]
-    fn an_extend_cut_short_leaves_the_rest(rt: HostRuntime) -> Result<(), Fail> {
+    fn an_extend_cut_short_leaves_the_rest(rt: HostRuntime) {
         let mut places = [0u64; 2];
         let mut heap = BinaryHeap::new(&mut places);
         let mut supply = Lent::new(&[1u64, 2, 3]);
-        let Err(fault) = heap.extend(&mut supply) else {
-            return Err(Fail::new("three elements in two places"));
-        };
-        assert_eq!(rt; fault.refusal().carries, Some(2));
+        let refusal = heap.extend(&mut supply).err().map(|fault| fault.refusal());
+        assert_eq!(rt; refusal, Some(Refusal::by_with(2, 2)));
         assert_eq!(rt; supply.next(), Some(3));
         assert!(rt; places == [2, 1]);
-        Ok(())
     }
 
     #[test]
@@ -183,6 +175,55 @@ mod tests {
         assert!(rt; heap.drain(&mut list).is_ok());
         assert!(rt; heap.is_empty());
         assert!(rt; list == [6, 4]);
+    }
+
+    #[test]
+    fn a_pop_if_asks_the_keeper_about_the_front(rt: HostRuntime) {
+        let mut places = [0u64; 3];
+        let mut heap = BinaryHeap::new(&mut places);
+        let mut ceiling = Ceiling::new(5u64);
+        assert_eq!(rt; heap.pop_if(&mut ceiling), None);
+        assert!(rt; heap.extend(&mut Lent::new(&[4u64, 6, 5])).is_ok());
+        assert_eq!(rt; heap.pop_if(&mut ceiling), None);
+        assert_eq!(rt; heap.pop(), Some(6));
+        assert_eq!(rt; heap.pop_if(&mut ceiling), Some(5));
+        assert_eq!(rt; heap.len(), 1);
+    }
+
+    #[test]
+    fn a_refresh_says_once_that_the_front_moved(rt: HostRuntime) {
+        let mut places = [5u64, 4, 3, 1, 2];
+        let mut heap = BinaryHeap::new(&mut places);
+        assert!(rt; heap.adopt(5).is_ok());
+        let mut edit = heap.peek_mut();
+        assert_eq!(rt; edit.peek().copied(), Some(5));
+        assert!(rt; !edit.refresh());
+        assert!(rt; edit.set(0).is_ok());
+        assert_eq!(rt; edit.peek().copied(), Some(0));
+        assert!(rt; edit.refresh());
+        assert!(rt; !edit.refresh());
+        assert_eq!(rt; edit.close().len(), 5);
+        assert!(rt; places == [4, 2, 3, 1, 0]);
+    }
+
+    #[test]
+    fn an_edits_pop_hands_out_what_was_set(rt: HostRuntime) {
+        let mut places = [5u64, 4, 3, 1, 2];
+        let mut heap = BinaryHeap::new(&mut places);
+        assert!(rt; heap.adopt(5).is_ok());
+        let mut edit = heap.peek_mut();
+        assert!(rt; edit.set(0).is_ok());
+        let (mut place, mut wrote) = (7u64, false);
+        let mut heap = edit.pop(&mut place, &mut wrote);
+        assert!(rt; wrote && place == 0);
+        assert_eq!(rt; heap.len(), 4);
+        heap.clear();
+        let mut edit = heap.peek_mut();
+        let refusal = edit.set(1).err().map(|fault| fault.refusal());
+        assert_eq!(rt; refusal, Some(Refusal::by(4)));
+        let heap = edit.pop(&mut place, &mut wrote);
+        assert!(rt; !wrote && place == 0 && heap.is_empty());
+        assert!(rt; places == [4, 2, 3, 1, 2]);
     }
 
     #[test]
