@@ -1,12 +1,12 @@
 -- One turn of the loops of `rebuild` and `rebuild_tail` is one step of their definitions.
-use Rattle.std.proofs.Common.{◌≡◌, ℕ, zero, suc, ◌+◌, ◌-◌, ◌<◌, ◌≤◌, List, length, Ordering, sym, refl, ap, ◌∙◌, arith, add-one}
+use Rattle.std.proofs.Common.{◌≡◌, ℕ, zero, suc, ◌+◌, ◌-◌, ◌<◌, ◌≤◌, List, length, Ordering, refl, arith, add-one}
 use Rattle.rows.specs.Sifts.{sift_up, sift_down}
 use Rattle.rows.specs.Rebuilds.{sift_downs, sift_ups}
 
 module _ {X : Type 0} (ordering : X → X → Ordering) where
   pub down_turn : (row row' : List X) (n m : ℕ) → n ≡ m + 1 → row' ≡ (sift_down ordering row m).row → sift_downs ordering m row' ≡ sift_downs ordering n row
   unfolding sift_downs
-  down_turn row row' n m e is = ap (sift_downs ordering m) is ∙ sym (ap (λ k. sift_downs ordering k row) (e ∙ add-one m))
+  down_turn row row' n m e is = rw (e, add-one, is)
 
   pub down_end : (row : List X) (n : ℕ) → n ≤ 0 → sift_downs ordering n row ≡ row
   unfolding sift_downs
@@ -25,11 +25,11 @@ module _ {X : Type 0} (ordering : X → X → Ordering) where
   unfolding sift_ups ups_from
   up_turn row row' i l is long =
       let e : length row - i ≡ suc (length row' - (i + 1)) = omega arith in
-      ap (λ r. sift_ups ordering (length row' - (i + 1)) r (i + 1)) is ∙ sym (ap (λ n. sift_ups ordering n row i) e)
+      rw (e, is)
 
   pub up_end : (row : List X) (i : ℕ) → length row ≤ i → ups_from row i ≡ row
   unfolding sift_ups ups_from
-  up_end row i l = let e : length row - i ≡ 0 = omega arith in ap (λ n. sift_ups ordering n row i) e
+  up_end row i l = let e : length row - i ≡ 0 = omega arith in rw e
 
 pub ruleset downs = (down_turn, down_end)
 
