@@ -5,7 +5,7 @@ use Rattle.rows.specs.Sifts.{Sifted, parent, rise, sift_up, sunk, sift_down, sif
 use Rattle.elements.specs.Orders.{Lawful}
 use Rattle.rows.specs.Heaps.{InOrder, Heaped, FrontHeaped, HeapedFrom}
 use Rattle.rows.proofs.Holes.{Ordered, Gap, Over}
-use Rattle.rows.proofs.Comparisons.{Le, le_self, le_trans}
+use Rattle.rows.proofs.Comparisons.{Le, le_self}
 use Rattle.rows.proofs.Settling.{look, rises, falls, Landed, lands}
 use Rattle.rows.proofs.Bags.{length_perm, up_perm, down_perm, leaf_kept, bottom_perm}
 
@@ -82,7 +82,7 @@ module _ {X : Type 0} (ordering : X → X → Ordering) where
     to_front fuel row h zero d f l = le_self ordering lawful (get_or row 0 d)
     to_front zero row h (suc k) d f l = absurd (omega arith)
     to_front (suc fuel) row h (suc k) d f l =
-        le_trans ordering lawful (get_or row (suc k) d) (get_or row (parent (suc k)) d) (get_or row 0 d)
+        lawful.transitive (get_or row (suc k) d) (get_or row (parent (suc k)) d) (get_or row 0 d)
         (h (suc k) (omega arith) l d) (to_front fuel row h (parent (suc k)) d (omega arith) (omega arith))
 
     pub front_greatest : (row : List X) → Heaped ordering row → (k : ℕ) (d : X) → k < length row → Le ordering (get_or row k d) (get_or row 0 d)

@@ -4,7 +4,7 @@ use Rattle.std.proofs.lemmas.Bool.{leb-true, leb-false, ltb-true, ltb-false, con
 use Rattle.elements.specs.Orders.{exceeds, below, Lawful}
 use Rattle.rows.specs.Sifts.{Sifted, put, parent, rise, greater_child, sink}
 use Rattle.rows.proofs.Holes.{Edge, Written, Ordered, Gap, Over, Under, fills, refill, climbs, climbs_over, sinks, sinks_under}
-use Rattle.rows.proofs.Comparisons.{Le, le_self, le_trans, le_if_below, le_if_exceeds, le_unless_below}
+use Rattle.rows.proofs.Comparisons.{Le, le_self, le_if_below, le_if_exceeds, le_unless_below}
 
 module _ {X : Type 0} (x : X) where
   abbrev pub look : List X → ℕ → X
@@ -48,8 +48,8 @@ module _ {X : Type 0} (ordering : X → X → Ordering) (lawful : Lawful orderin
         let e : Edge 0 n (parent h) h = record { from = omega arith; left = omega arith; right = omega arith; within = l } in
         let w = writes x xs h y (omega arith) in
         rises fuel ys (parent h) (omega arith) (omega arith) (simp length-set (omega arith))
-        (climbs (Le ordering) 0 n (look x xs) (look x ys) (le_trans ordering lawful) h (parent h) e w gap)
-        (climbs_over (Le ordering) 0 n (look x xs) (look x ys) (le_trans ordering lawful) h (parent h) e w gap x (le_if_exceeds ordering lawful x y s)))
+        (climbs (Le ordering) 0 n (look x xs) (look x ys) lawful.transitive h (parent h) e w gap)
+        (climbs_over (Le ordering) 0 n (look x xs) (look x ys) lawful.transitive h (parent h) e w gap x (le_if_exceeds ordering lawful x y s)))
         (λ s. stay (λ p e. subst (λ q. Le ordering x (get_or xs q x)) (omega arith) s)))
 
   chosen : (low : ℕ) (xs : List X) (h : ℕ) → h < length xs / 2 → Chosen ordering x low xs h (greater_child ordering x xs h)
@@ -101,7 +101,7 @@ module _ {X : Type 0} (ordering : X → X → Ordering) (lawful : Lawful orderin
         (falls fuel ys c (omega arith) (omega arith) (omega arith)
         (subst (λ i. Gap (Le ordering) low i (look x ys) c) (sym m) (sinks (Le ordering) low n (look x xs) (look x ys) h c e w ch.best gap))
         (subst (λ i. Under (Le ordering) low i (look x ys) c x) (sym m) (sinks_under (Le ordering) low n (look x xs) (look x ys) h c e w x (le_if_below ordering x y s)))))
-        (λ s. stay (λ k e. le_trans ordering lawful (look x xs k) y x (ch.best k e) (le_unless_below ordering lawful x y s))))
+        (λ s. stay (λ k e. lawful.transitive (look x xs k) y x (ch.best k e) (le_unless_below ordering lawful x y s))))
         (λ t. let z = ltb-false h (n / 2) t in stay (λ k e. absurd (omega arith)))
 
   -- down to a leaf, whatever x is
