@@ -2,7 +2,7 @@
 use Rattle.std.proofs.Common.{◌≡◌, ℕ, zero, suc, ◌+◌, ◌-◌, ◌/◌, ◌≤◌, cond, leb, List, length, Ordering, arith}
 use mathlib.Core.List.Perm
 use mathlib.Core.List.{Perm}
-use Rattle.std.proofs.lemmas.Bool.{cond_both, leb-true, leb-false}
+use Rattle.std.proofs.lemmas.Bool.Decides.{nat_tests}
 use Rattle.elements.specs.Orders.{Lawful}
 use Rattle.rows.specs.Sifts.{sift_up, sift_down}
 use Rattle.rows.specs.Rebuilds.{rebuilds, sift_downs, rebuilt, sift_ups, tail_rebuilt}
@@ -29,12 +29,7 @@ module _ {X : Type 0} (ordering : X → X → Ordering) where
       Perm.trans p (ups_perm count (sift_up ordering row 0 from).row (from + 1) (omega (arith, length_perm p)))
 
   pub tail_perm : (start : ℕ) (row : List X) → Perm row (tail_rebuilt ordering start row)
-  tail_perm start row =
-      let n : ℕ = length row in
-      let whole : List X = rebuilt ordering row in
-      let ups : List X = sift_ups ordering (n - start) row start in
-      cond_both (leb n start) row (cond (rebuilds start n) whole ups) (Perm row) (λ _. Perm.refl row)
-      (λ t. let l = leb-false n start t in cond_both (rebuilds start n) whole ups (Perm row) (λ _. rebuilt_perm row) (λ _. ups_perm (n - start) row start (omega arith)))
+  tail_perm start row = grind (arith, nat_tests, Perm.refl row, rebuilt_perm row, ups_perm (length row - start) row start)
 
   module _ (lawful : Lawful ordering) where
     downs_heap : (n : ℕ) (row : List X) → n ≤ length row → HeapedFrom ordering n row → HeapedFrom ordering 0 (sift_downs ordering n row)
@@ -54,9 +49,4 @@ module _ {X : Type 0} (ordering : X → X → Ordering) where
         (λ k p q. up_heap ordering lawful row from (omega arith) h k p (omega arith))
 
     pub tail_heap : (start : ℕ) (row : List X) → FrontHeaped ordering start row → Heaped ordering (tail_rebuilt ordering start row)
-    tail_heap start row h =
-        let n : ℕ = length row in
-        let whole : List X = rebuilt ordering row in
-        let ups : List X = sift_ups ordering (n - start) row start in
-        cond_both (leb n start) row (cond (rebuilds start n) whole ups) (Heaped ordering) (λ t. let l = leb-true n start t in λ k p q. h k p (omega arith))
-        (λ t. let l = leb-false n start t in cond_both (rebuilds start n) whole ups (Heaped ordering) (λ _. rebuilt_heap row) (λ _. ups_heap (n - start) row start (omega arith) h))
+    tail_heap start row h = grind (arith, nat_tests, rebuilt_heap row, ups_heap (length row - start) row start)
