@@ -1,5 +1,6 @@
 -- The sifts put a row in order, seen from the hole. The moved value x is also what a read past the end gives.
 use Rattle.std.proofs.Common.{◌≡◌, ℕ, zero, suc, ◌+◌, ◌*◌, ◌/◌, ◌<◌, ◌≤◌, Bool, true, cond, ltb, leb, List, length, get_or, set, Ordering, sym, subst, ⊎_elim, arith, length-set, get_or-set_other, get_or-set_same}
+use Rattle.std.proofs.lemmas.Bool.Decides.{nat_tests}
 use Rattle.std.proofs.lemmas.Bool.{leb-true, leb-false, ltb-true, ltb-false, cond_both, cases_eq}
 use Rattle.elements.specs.Orders.{exceeds, below, Lawful}
 use Rattle.rows.specs.Sifts.{Sifted, put, parent, rise, greater_child, sink}
@@ -54,24 +55,12 @@ module _ {X : Type 0} (ordering : X → X → Ordering) (lawful : Lawful orderin
 
   chosen : (low : ℕ) (xs : List X) (h : ℕ) → h < length xs / 2 → Chosen ordering x low xs h (greater_child ordering x xs h)
   chosen low xs h l =
-      let left = 2 * h + 1 in
-      let right = 2 * h + 2 in
-      let same : (k c : ℕ) → k ≡ c → Le ordering (look x xs k) (look x xs c) = λ k c e. subst (λ m. Le ordering (look x xs k) (look x xs m)) e (le_self ordering lawful (look x xs k)) in
-      cond_both (ltb right (length xs)) (cond (exceeds ordering (look x xs left) (look x xs right)) left right) left (Chosen ordering x low xs h)
-      (λ t. let r = ltb-true right (length xs) t in
-      cond_both (exceeds ordering (look x xs left) (look x xs right)) left right (Chosen ordering x low xs h)
-      (λ s. record {
-        edge = λ g. record { from = g; left = omega arith; right = omega arith; within = omega arith };
-        best = λ k e. ⊎_elim (same k left) (λ u. subst (λ m. Le ordering (look x xs m) (look x xs left)) (omega arith) (le_if_exceeds ordering lawful (look x xs left) (look x xs right) s)) (cases_eq k left);
-      })
-      (λ s. record {
-        edge = λ g. record { from = g; left = omega arith; right = omega arith; within = omega arith };
-        best = λ k e. ⊎_elim (same k right) (λ u. subst (λ m. Le ordering (look x xs m) (look x xs right)) (omega arith) s) (cases_eq k right);
-      }))
-      (λ t. let r = ltb-false right (length xs) t in record {
-        edge = λ g. record { from = g; left = omega arith; right = omega arith; within = omega arith };
-        best = λ k e. same k left (omega arith);
-      })
+      let self = le_self ordering lawful in
+      let above = le_if_exceeds ordering lawful (look x xs (2 * h + 1)) (look x xs (2 * h + 2)) in
+      record {
+        edge = λ g. grind (arith, nat_tests);
+        best = λ k e. grind (arith, nat_tests, cases_eq k (2 * h + 1));
+      }
 
   -- downwards, while a child exceeds x
   module _ (low : ℕ) where
