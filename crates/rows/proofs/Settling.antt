@@ -36,22 +36,16 @@ module _ {X : Type 0} (ordering : X → X → Ordering) (lawful : Lawful orderin
     unfolding rise
     rises zero xs h f l len gap over = fills (Le ordering) 0 n (look x xs) (look x (set xs h x)) h x (writes x xs h x (omega arith)) gap over (λ p e. absurd (omega arith))
     rises (suc fuel) xs h f l len gap over =
-        let Good : Sifted X → Type 0 = λ r. Ordered (Le ordering) 0 n (look x r.row) in
         let y : X = get_or xs (parent h) x in
         let ys : List X = set xs h y in
-        let stay : Under (Le ordering) 0 n (look x xs) h x → Good (put x xs h)
-        = fills (Le ordering) 0 n (look x xs) (look x (set xs h x)) h x (writes x xs h x (omega arith)) gap over in
-        cond_both (leb h 0) (put x xs h) (cond (exceeds ordering x y) (rise ordering fuel 0 x ys (parent h)) (put x xs h)) Good
-        (λ t. let z = leb-true h 0 t in stay (λ p e. absurd (omega arith)))
-        (λ t. let z = leb-false h 0 t in
-        cond_both (exceeds ordering x y) (rise ordering fuel 0 x ys (parent h)) (put x xs h) Good
-        (λ s.
-        let e : Edge 0 n (parent h) h = record { from = omega arith; left = omega arith; right = omega arith; within = l } in
-        let w = writes x xs h y (omega arith) in
-        rises fuel ys (parent h) (omega arith) (omega arith) (simp length-set (omega arith))
-        (climbs (Le ordering) 0 n (look x xs) (look x ys) lawful.transitive h (parent h) e w gap)
-        (climbs_over (Le ordering) 0 n (look x xs) (look x ys) lawful.transitive h (parent h) e w gap x (le_if_exceeds ordering lawful x y s)))
-        (λ s. stay (λ p e. subst (λ q. Le ordering x (get_or xs q x)) (omega arith) s)))
+        let stay = fills (Le ordering) 0 n (look x xs) (look x (set xs h x)) h x (writes x xs h x (omega arith)) gap over in
+        let on = λ (a : 0 < h) (s : exceeds ordering x y ≡ true).
+            let e : Edge 0 n (parent h) h = grind arith in
+            let w = writes x xs h y (omega arith) in
+            rises fuel ys (parent h) (omega arith) (omega arith) (simp length-set (omega arith))
+            (climbs (Le ordering) 0 n (look x xs) (look x ys) lawful.transitive h (parent h) e w gap)
+            (climbs_over (Le ordering) 0 n (look x xs) (look x ys) lawful.transitive h (parent h) e w gap x (le_if_exceeds ordering lawful x y s)) in
+        grind (arith, nat_tests, stay, on)
 
   chosen : (low : ℕ) (xs : List X) (h : ℕ) → h < length xs / 2 → Chosen ordering x low xs h (greater_child ordering x xs h)
   chosen low xs h l =
