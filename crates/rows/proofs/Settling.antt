@@ -1,5 +1,5 @@
 -- The sifts put a row in order, seen from the hole. The moved value x is also what a read past the end gives.
-use Rattle.std.proofs.Common.{◌≡◌, ℕ, zero, suc, ◌+◌, ◌*◌, ◌/◌, ◌<◌, ◌≤◌, Bool, true, cond, ltb, leb, List, length, get_or, set, Ordering, sym, subst, ⊎_elim, arith, length-set, get_or-set_other, get_or-set_same}
+use Rattle.std.proofs.Common.{◌≡◌, ℕ, zero, suc, ◌+◌, ◌*◌, ◌/◌, ◌<◌, ◌≤◌, Bool, true, false, cond, ltb, leb, List, length, get_or, set, Ordering, sym, subst, ⊎_elim, arith, length-set, get_or-set_other, get_or-set_same}
 use Rattle.std.proofs.lemmas.Bool.Decides.{nat_tests}
 use Rattle.std.proofs.lemmas.Bool.{leb-true, leb-false, ltb-true, ltb-false, cond_both, cases_eq}
 use Rattle.elements.specs.Orders.{exceeds, below, Lawful}
@@ -64,28 +64,21 @@ module _ {X : Type 0} (ordering : X → X → Ordering) (lawful : Lawful orderin
     unfolding sink
     falls zero xs h f l g gap under = absurd (omega arith)
     falls (suc fuel) xs h f l g gap under =
-        let moves : X → X → Bool = below ordering in
         let n : ℕ = length xs in
-        let Good : Sifted X → Type 0 = λ r. Ordered (Le ordering) low n (look x r.row) in
         let c : ℕ = greater_child ordering x xs h in
         let y : X = get_or xs c x in
         let ys : List X = set xs h y in
-        let stay : Over (Le ordering) low n (look x xs) h x → Good (put x xs h)
-        = λ over. fills (Le ordering) low n (look x xs) (look x (set xs h x)) h x (writes x xs h x l) gap over under in
-        cond_both (ltb h (n / 2)) (cond (moves x y) (sink ordering moves fuel x ys c) (put x xs h)) (put x xs h) Good
-        (λ t. let z = ltb-true h (n / 2) t in
-        let ch : Chosen ordering x low xs h c = chosen low xs h z in
-        cond_both (moves x y) (sink ordering moves fuel x ys c) (put x xs h) Good
-        (λ s.
-        let e : Edge low n h c = ch.edge g in
-        let w = writes x xs h y l in
-        let m : length ys ≡ n = length-set xs h y in
-        subst (λ i. Ordered (Le ordering) low i (look x (sink ordering moves fuel x ys c).row)) m
-        (falls fuel ys c (omega arith) (omega arith) (omega arith)
-        (subst (λ i. Gap (Le ordering) low i (look x ys) c) (sym m) (sinks (Le ordering) low n (look x xs) (look x ys) h c e w ch.best gap))
-        (subst (λ i. Under (Le ordering) low i (look x ys) c x) (sym m) (sinks_under (Le ordering) low n (look x xs) (look x ys) h c e w x (le_if_below ordering x y s)))))
-        (λ s. stay (λ k e. lawful.transitive (look x xs k) y x (ch.best k e) (le_unless_below ordering lawful x y s))))
-        (λ t. let z = ltb-false h (n / 2) t in stay (λ k e. absurd (omega arith)))
+        let stay = λ (over : Over (Le ordering) low n (look x xs) h x). fills (Le ordering) low n (look x xs) (look x (set xs h x)) h x (writes x xs h x l) gap over under in
+        let rest = λ (a : h < n / 2) (s : below ordering x y ≡ false). stay (λ k e. lawful.transitive (look x xs k) y x ((chosen low xs h a).best k e) (le_unless_below ordering lawful x y s)) in
+        let on = λ (a : h < n / 2) (s : below ordering x y ≡ true).
+            let ch = chosen low xs h a in
+            let e = ch.edge g in
+            let w = writes x xs h y l in
+            let m : length ys ≡ n = length-set xs h y in
+            rw m at (falls fuel ys c (omega arith) (omega arith) (omega arith)
+            (rw m (sinks (Le ordering) low n (look x xs) (look x ys) h c e w ch.best gap))
+            (rw m (sinks_under (Le ordering) low n (look x xs) (look x ys) h c e w x (le_if_below ordering x y s)))) in
+        grind (arith, nat_tests, stay, rest, on)
 
   -- down to a leaf, whatever x is
   module _ (low : ℕ) where
@@ -98,14 +91,12 @@ module _ {X : Type 0} (ordering : X → X → Ordering) (lawful : Lawful orderin
         let c : ℕ = greater_child ordering x xs h in
         let y : X = get_or xs c x in
         let ys : List X = set xs h y in
-        cond_both (ltb h (n / 2)) (sink ordering (λ x child. true) fuel x ys c) (put x xs h) (Landed ordering x low n)
-        (λ t. let z = ltb-true h (n / 2) t in
-        let ch : Chosen ordering x low xs h c = chosen low xs h z in
-        let e : Edge low n h c = ch.edge g in
-        let m : length ys ≡ n = length-set xs h y in
-        subst (λ i. Landed ordering x low i (sink ordering (λ x child. true) fuel x ys c)) m
-        (lands fuel ys c (omega arith) (omega arith) (omega arith)
-        (subst (λ i. Gap (Le ordering) low i (look x ys) c) (sym m) (sinks (Le ordering) low n (look x xs) (look x ys) h c e (writes x xs h y l) ch.best gap))))
-        (λ t. let z = ltb-false h (n / 2) t in
         let w = writes x xs h x l in
-        record { within = l; leaf = z; here = w.here; gap = refill (Le ordering) low n (look x xs) (look x (set xs h x)) h x w gap })
+        let rest = refill (Le ordering) low n (look x xs) (look x (set xs h x)) h x w gap in
+        let on = λ (a : h < n / 2).
+            let ch = chosen low xs h a in
+            let e = ch.edge g in
+            let m : length ys ≡ n = length-set xs h y in
+            rw m at (lands fuel ys c (omega arith) (omega arith) (omega arith)
+            (rw m (sinks (Le ordering) low n (look x xs) (look x ys) h c e (writes x xs h y l) ch.best gap))) in
+        grind (arith, nat_tests, rest, on)
