@@ -15,20 +15,14 @@ module _ {X : Type 0} (ordering : X → X → Ordering) where
   Held low n row = (k : ℕ) → 0 < k → k < n → low ≤ parent k → InOrder ordering row k
 
   held : (low n : ℕ) (row : List X) (x : X) → n ≤ length row → Ordered (Le ordering) low n (look x row) → Held low n row
-  held low n row x l o k p q r d =
-      subst (λ u. Le ordering u (get_or row (parent k) d)) (get_or_default row k x d (omega arith))
-      (subst (λ v. Le ordering (get_or row k x) v) (get_or_default row (parent k) x d (omega arith))
-      (o (parent k) k (record { from = r; left = omega arith; right = omega arith; within = q })))
+  held low n row x l o k p q r d = grind (arith, o (parent k) k, get_or_default row k x d, get_or_default row (parent k) x d)
 
   ordered : (low n : ℕ) (row : List X) (x : X) → Held low n row → Ordered (Le ordering) low n (look x row)
-  ordered low n row x h p k e = subst (λ q. Le ordering (get_or row k x) (get_or row q x)) (omega arith) (h k (omega arith) e.within (omega arith) x)
+  ordered low n row x h p k e = grind (arith, h k)
 
   -- a hole at the lowest place that counts
   opens : (low n : ℕ) (row : List X) (x : X) → Held (suc low) n row → Gap (Le ordering) low n (look x row) low
-  opens low n row x h = record {
-    apart = λ p k e u v. ordered (suc low) n row x h p k (record { from = omega arith; left = e.left; right = e.right; within = e.within });
-    across = λ p k e f. absurd (omega arith);
-  }
+  opens low n row x h = grind (arith, ordered (suc low) n row x h)
 
   module _ (lawful : Lawful ordering) where
     up_held : (row : List X) (n pos : ℕ) (x : X) → pos < n → n ≤ length row → x ≡ get_or row pos x
@@ -82,8 +76,7 @@ module _ {X : Type 0} (ordering : X → X → Ordering) where
     to_front fuel row h zero d f l = le_self ordering lawful (get_or row 0 d)
     to_front zero row h (suc k) d f l = absurd (omega arith)
     to_front (suc fuel) row h (suc k) d f l =
-        lawful.transitive (get_or row (suc k) d) (get_or row (parent (suc k)) d) (get_or row 0 d)
-        (h (suc k) (omega arith) l d) (to_front fuel row h (parent (suc k)) d (omega arith) (omega arith))
+        lawful.transitive _ _ _ (h (suc k) (omega arith) l d) (to_front fuel row h (parent (suc k)) d (omega arith) (omega arith))
 
     pub front_greatest : (row : List X) → Heaped ordering row → (k : ℕ) (d : X) → k < length row → Le ordering (get_or row k d) (get_or row 0 d)
     front_greatest row h k d l = to_front k row h k d (omega arith) l
