@@ -31,20 +31,15 @@ module _ {X : Type 0} (ordering : X → X → Ordering) where
     up_held [] n pos x p l e gap over = absurd (omega arith)
     up_held (d ∷ ds) n pos x p l e gap over = λ k a b.
         held 0 n (sift_up ordering (d ∷ ds) 0 pos).row x (omega (arith, length_perm (up_perm ordering (d ∷ ds) 0 pos (omega arith))))
-        (subst (λ v. Ordered (Le ordering) 0 n (look x (rise ordering pos 0 v (d ∷ ds) pos).row)) (get_or_read (d ∷ ds) pos x (omega arith) e d)
-        (rises ordering lawful x n pos (d ∷ ds) pos (omega arith) p l gap over)) k a b (omega arith)
+        (rw (← get_or_read (d ∷ ds) pos x (omega arith) e d) (rises ordering lawful x n pos (d ∷ ds) pos (omega arith) p l gap over)) k a b (omega arith)
 
     pub up_heap : (row : List X) (n : ℕ) → n < length row → FrontHeaped ordering n row → FrontHeaped ordering (suc n) (sift_up ordering row 0 n).row
     up_heap [] n l h = absurd (omega arith)
     up_heap (d ∷ ds) n l h =
         let row : List X = d ∷ ds in
         let x : X = get_or row n d in
-        up_held row (suc n) n x (omega arith) (omega arith) (get_or_default row n d x l)
-        (record {
-          apart = λ p k e u v. ordered 0 n row x (λ k a b c. h k a b) p k (record { from = omega arith; left = e.left; right = e.right; within = omega arith });
-          across = λ p k e f. absurd (omega arith);
-        })
-        (λ k e. absurd (omega arith))
+        let o = ordered 0 n row x (λ k a b c. h k a b) in
+        up_held row (suc n) n x (omega arith) (omega arith) (get_or_default row n d x l) (grind arith) (λ k e. absurd (omega arith))
 
     pub down_heap : (row : List X) (pos : ℕ) → pos < length row → HeapedFrom ordering (suc pos) row → HeapedFrom ordering pos (sift_down ordering row pos).row
     unfolding sunk
@@ -52,10 +47,9 @@ module _ {X : Type 0} (ordering : X → X → Ordering) where
     down_heap (d ∷ ds) pos l h =
         let row : List X = d ∷ ds in
         let x : X = get_or row pos d in
-        let out : List X = (sift_down ordering row pos).row in
-        let same : length row ≡ length out = length_perm (down_perm ordering row pos l) in
-        subst (λ n. Held pos n out) same
-        (held pos (length row) out x (omega arith) (falls ordering lawful x pos (length row) row pos (omega arith) l (omega arith) (opens pos (length row) row x h) (λ p e. absurd (omega arith))))
+        let same = length_perm (down_perm ordering row pos l) in
+        rw (← same) (held pos (length row) (sift_down ordering row pos).row x (omega arith)
+        (falls ordering lawful x pos (length row) row pos (omega arith) l (omega arith) (opens pos (length row) row x h) (λ p e. absurd (omega arith))))
 
     pub bottom_heap : (row : List X) → HeapedFrom ordering 1 row → Heaped ordering (sift_down_to_bottom ordering row 0).row
     unfolding sunk sift_up
@@ -63,13 +57,11 @@ module _ {X : Type 0} (ordering : X → X → Ordering) where
     bottom_heap (d ∷ ds) h =
         let row : List X = d ∷ ds in
         let n : ℕ = length row in
-        let l : 0 < n = omega arith in
         let r : Sifted X = sift_to_leaf ordering row 0 in
-        let on : Landed ordering d 0 n r = lands ordering lawful d 0 n row 0 (omega arith) l (omega arith) (opens 0 n row d h) in
-        let same : n ≡ length r.row = length_perm (leaf_kept ordering row 0 l).bag in
-        let all : n ≡ length (sift_down_to_bottom ordering row 0).row = length_perm (bottom_perm ordering row 0 l) in
-        subst (λ m. FrontHeaped ordering m (sift_down_to_bottom ordering row 0).row) all
-        (up_held r.row n r.at d on.within (omega arith) (sym on.here) on.gap (λ k e. absurd (omega (arith, on.leaf))))
+        let on : Landed ordering d 0 n r = lands ordering lawful d 0 n row 0 (omega arith) (omega arith) (omega arith) (opens 0 n row d h) in
+        let same = length_perm (leaf_kept ordering row 0 (omega arith)).bag in
+        let all = length_perm (bottom_perm ordering row 0 (omega arith)) in
+        rw (← all) (up_held r.row n r.at d on.within (omega arith) (sym on.here) on.gap (λ k e. absurd (omega (arith, on.leaf))))
 
     -- by steps to the parent
     to_front : (fuel : ℕ) (row : List X) → Heaped ordering row → (k : ℕ) (d : X) → k ≤ fuel → k < length row → Le ordering (get_or row k d) (get_or row 0 d)
