@@ -1,14 +1,13 @@
 -- The sifts only rearrange a row.
-use Rattle.std.proofs.Common.{◌≡◌, ℕ, zero, suc, ◌/◌, ◌<◌, Bool, true, cond, ltb, leb, ◌≢◌, List, [], ◌∷◌, length, get_or, set, Ordering, refl, ap, ◌∙◌, subst, arith, length-set, get_or-set_other, get_or-set_same, set-set}
+use Rattle.std.proofs.Common.{◌≡◌, ℕ, zero, suc, ◌<◌, Bool, true, ◌≢◌, List, [], ◌∷◌, length, get_or, set, Ordering, refl, ap, ◌∙◌, arith, length-set, get_or-set_other, get_or-set_same, set-set}
 use mathlib.Core.List.Perm
 use mathlib.Core.Logic.{∥∥₁_elim}
 use mathlib.Core.List.{Perm, Permᴰ}
 use native.Mathlib.Nat.{ℕ_set}
 use lib.Seq.{set-get_or}
 use Rattle.std.proofs.lemmas.Bool.Decides.{nat_tests}
-use Rattle.std.proofs.lemmas.Bool.{ltb-true, cond_both}
-use Rattle.elements.specs.Orders.{exceeds, below}
-use Rattle.rows.specs.Sifts.{Sifted, put, parent, rise, greater_child, sink, sift_up, sunk, sift_down, sift_to_leaf, sift_down_to_bottom}
+use Rattle.elements.specs.Orders.{below}
+use Rattle.rows.specs.Sifts.{Sifted, parent, rise, greater_child, sink, sift_up, sunk, sift_down, sift_to_leaf, sift_down_to_bottom}
 use Rattle.rows.proofs.Sinks.{child_within}
 
 lengthᴰ : {X : Type 0} {xs ys : List X} → Permᴰ xs ys → length xs ≡ length ys

@@ -1,7 +1,7 @@
 -- The sifts put whole rows in order.
-use Rattle.std.proofs.Common.{◌≡◌, ℕ, zero, suc, ◌<◌, ◌≤◌, List, [], ◌∷◌, length, get_or, Ordering, sym, subst, arith}
+use Rattle.std.proofs.Common.{◌≡◌, ℕ, zero, suc, ◌<◌, ◌≤◌, List, [], ◌∷◌, length, get_or, Ordering, sym, arith}
 use Rattle.std.proofs.lemmas.List.{get_or_default, get_or_read}
-use Rattle.rows.specs.Sifts.{Sifted, parent, rise, sift_up, sunk, sift_down, sift_to_leaf, sift_down_to_bottom}
+use Rattle.rows.specs.Sifts.{Sifted, parent, sift_up, sunk, sift_down, sift_to_leaf, sift_down_to_bottom}
 use Rattle.elements.specs.Orders.{Lawful}
 use Rattle.rows.specs.Heaps.{InOrder, Heaped, FrontHeaped, HeapedFrom}
 use Rattle.rows.proofs.Holes.{Ordered, Gap, Over}

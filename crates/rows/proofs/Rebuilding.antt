@@ -1,11 +1,11 @@
 -- `rebuild` and `rebuild_tail` only rearrange a row, and make a heap of it.
-use Rattle.std.proofs.Common.{◌≡◌, ℕ, zero, suc, ◌+◌, ◌-◌, ◌/◌, ◌≤◌, cond, leb, List, length, Ordering, arith}
+use Rattle.std.proofs.Common.{◌≡◌, ℕ, zero, suc, ◌+◌, ◌-◌, ◌/◌, ◌≤◌, List, length, Ordering, arith}
 use mathlib.Core.List.Perm
 use mathlib.Core.List.{Perm}
 use Rattle.std.proofs.lemmas.Bool.Decides.{nat_tests}
 use Rattle.elements.specs.Orders.{Lawful}
 use Rattle.rows.specs.Sifts.{sift_up, sift_down}
-use Rattle.rows.specs.Rebuilds.{rebuilds, sift_downs, rebuilt, sift_ups, tail_rebuilt}
+use Rattle.rows.specs.Rebuilds.{sift_downs, rebuilt, sift_ups, tail_rebuilt}
 use Rattle.rows.specs.Heaps.{Heaped, FrontHeaped, HeapedFrom}
 use Rattle.rows.proofs.Bags.{length_perm, up_perm, down_perm}
 use Rattle.rows.proofs.Heaping.{up_heap, down_heap}

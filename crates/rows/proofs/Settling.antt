@@ -1,9 +1,9 @@
 -- The sifts put a row in order, seen from the hole. The moved value x is also what a read past the end gives.
-use Rattle.std.proofs.Common.{◌≡◌, ℕ, zero, suc, ◌+◌, ◌*◌, ◌/◌, ◌<◌, ◌≤◌, Bool, true, false, cond, ltb, leb, List, length, get_or, set, Ordering, sym, subst, ⊎_elim, arith, length-set, get_or-set_other, get_or-set_same}
+use Rattle.std.proofs.Common.{◌≡◌, ℕ, zero, suc, ◌+◌, ◌*◌, ◌/◌, ◌<◌, ◌≤◌, true, false, List, length, get_or, set, Ordering, arith, length-set, get_or-set_other, get_or-set_same}
 use Rattle.std.proofs.lemmas.Bool.Decides.{nat_tests}
-use Rattle.std.proofs.lemmas.Bool.{leb-true, leb-false, ltb-true, ltb-false, cond_both, cases_eq}
+use Rattle.std.proofs.lemmas.Bool.{cases_eq}
 use Rattle.elements.specs.Orders.{exceeds, below, Lawful}
-use Rattle.rows.specs.Sifts.{Sifted, put, parent, rise, greater_child, sink}
+use Rattle.rows.specs.Sifts.{Sifted, parent, rise, greater_child, sink}
 use Rattle.rows.proofs.Holes.{Edge, Written, Ordered, Gap, Over, Under, fills, refill, climbs, climbs_over, sinks, sinks_under}
 use Rattle.rows.proofs.Comparisons.{Le, le_self, le_if_below, le_if_exceeds, le_unless_below}
 
@@ -40,11 +40,11 @@ module _ {X : Type 0} (ordering : X → X → Ordering) (lawful : Lawful orderin
         let ys : List X = set xs h y in
         let stay = fills (Le ordering) 0 n (look x xs) (look x (set xs h x)) h x (writes x xs h x (omega arith)) gap over in
         let on = λ (a : 0 < h) (s : exceeds ordering x y ≡ true).
-            let e : Edge 0 n (parent h) h = grind arith in
-            let w = writes x xs h y (omega arith) in
-            rises fuel ys (parent h) (omega arith) (omega arith) (simp length-set (omega arith))
-            (climbs (Le ordering) 0 n (look x xs) (look x ys) lawful.transitive h (parent h) e w gap)
-            (climbs_over (Le ordering) 0 n (look x xs) (look x ys) lawful.transitive h (parent h) e w gap x (le_if_exceeds ordering lawful x y s)) in
+        let e : Edge 0 n (parent h) h = grind arith in
+        let w = writes x xs h y (omega arith) in
+        rises fuel ys (parent h) (omega arith) (omega arith) (simp length-set (omega arith))
+        (climbs (Le ordering) 0 n (look x xs) (look x ys) lawful.transitive h (parent h) e w gap)
+        (climbs_over (Le ordering) 0 n (look x xs) (look x ys) lawful.transitive h (parent h) e w gap x (le_if_exceeds ordering lawful x y s)) in
         grind (arith, nat_tests, stay, on)
 
   chosen : (low : ℕ) (xs : List X) (h : ℕ) → h < length xs / 2 → Chosen ordering x low xs h (greater_child ordering x xs h)
@@ -71,13 +71,13 @@ module _ {X : Type 0} (ordering : X → X → Ordering) (lawful : Lawful orderin
         let stay = λ (over : Over (Le ordering) low n (look x xs) h x). fills (Le ordering) low n (look x xs) (look x (set xs h x)) h x (writes x xs h x l) gap over under in
         let rest = λ (a : h < n / 2) (s : below ordering x y ≡ false). stay (λ k e. lawful.transitive (look x xs k) y x ((chosen low xs h a).best k e) (le_unless_below ordering lawful x y s)) in
         let on = λ (a : h < n / 2) (s : below ordering x y ≡ true).
-            let ch = chosen low xs h a in
-            let e = ch.edge g in
-            let w = writes x xs h y l in
-            let m : length ys ≡ n = length-set xs h y in
-            rw m at (falls fuel ys c (omega arith) (omega arith) (omega arith)
-            (rw m (sinks (Le ordering) low n (look x xs) (look x ys) h c e w ch.best gap))
-            (rw m (sinks_under (Le ordering) low n (look x xs) (look x ys) h c e w x (le_if_below ordering x y s)))) in
+        let ch = chosen low xs h a in
+        let e = ch.edge g in
+        let w = writes x xs h y l in
+        let m : length ys ≡ n = length-set xs h y in
+        rw m at (falls fuel ys c (omega arith) (omega arith) (omega arith)
+        (rw m (sinks (Le ordering) low n (look x xs) (look x ys) h c e w ch.best gap))
+        (rw m (sinks_under (Le ordering) low n (look x xs) (look x ys) h c e w x (le_if_below ordering x y s)))) in
         grind (arith, nat_tests, stay, rest, on)
 
   -- down to a leaf, whatever x is
@@ -94,9 +94,9 @@ module _ {X : Type 0} (ordering : X → X → Ordering) (lawful : Lawful orderin
         let w = writes x xs h x l in
         let rest = refill (Le ordering) low n (look x xs) (look x (set xs h x)) h x w gap in
         let on = λ (a : h < n / 2).
-            let ch = chosen low xs h a in
-            let e = ch.edge g in
-            let m : length ys ≡ n = length-set xs h y in
-            rw m at (lands fuel ys c (omega arith) (omega arith) (omega arith)
-            (rw m (sinks (Le ordering) low n (look x xs) (look x ys) h c e (writes x xs h y l) ch.best gap))) in
+        let ch = chosen low xs h a in
+        let e = ch.edge g in
+        let m : length ys ≡ n = length-set xs h y in
+        rw m at (lands fuel ys c (omega arith) (omega arith) (omega arith)
+        (rw m (sinks (Le ordering) low n (look x xs) (look x ys) h c e (writes x xs h y l) ch.best gap))) in
         grind (arith, nat_tests, rest, on)
