@@ -8,4 +8,3 @@ pub mod Settling
 pub mod Heaping
 pub mod Rebuilding
 pub mod Stands
-pub mod Checking
