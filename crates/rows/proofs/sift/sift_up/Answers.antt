@@ -3,4 +3,4 @@ use Rattle.rows.proofs.Rises.{moves}
 use Rattle.rows.proofs.sift.sift_up.Goals as goal
 
 pub sift-preserved : goal.sift-preserved
-sift-preserved g c = (search rules, search (rules, moves))
+sift-preserved g c = search (rules, moves)

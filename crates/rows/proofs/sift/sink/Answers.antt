@@ -4,7 +4,7 @@ use Rattle.rows.proofs.sift.sink.Goals as goal
 use Rattle.rows.proofs.sift.sink.Goals.{then-hole-row, else-hole-row+then-not-moves}
 
 pub sift-init : goal.sift-init
-sift-init g c = (omega arith, λ m is. begins _ m _ _ _ c.requires.pos c.index-row-pos.is)
+sift-init g c = search (rules, begins)
 
 pub sift-preserved : goal.sift-preserved
 sift-preserved g c = (
