@@ -10,12 +10,7 @@ module _ {H X : Type 0} (step : H → X → Said H) (h : H) where
   -- the one put to the keeper last
   kept_last : (past xs : List X) (x : X) → kept (asked step h) past (xs ++ (x ∷ [])) ≡ kept (asked step h) past xs ++ cond (step (holds_through step (holds_after step h past) xs) x).yes (x ∷ []) []
   kept_last past [] x = refl
-  kept_last past (y ∷ ys) x =
-      let more = kept_last (y ∷ past) ys x in
-      let b : Bool = asked step h past y in
-      let last : List X = cond (step (holds_through step (holds_after step h past) (y ∷ ys)) x).yes (x ∷ []) [] in
-      ap (λ (l : List X). cond b (y ∷ l) l) more
-      ∙ elim b as (λ (t : Bool). cond t (y ∷ (kept (asked step h) (y ∷ past) ys ++ last)) (kept (asked step h) (y ∷ past) ys ++ last) ≡ cond t (y ∷ kept (asked step h) (y ∷ past) ys) (kept (asked step h) (y ∷ past) ys) ++ last) [ true ↦ refl | false ↦ refl ]
+  kept_last past (y ∷ ys) x = grind (arith, kept_last (y ∷ past) ys x)
 
   holds_last : (k : H) (xs : List X) (x : X) → holds_through step k (xs ++ (x ∷ [])) ≡ (step (holds_through step k xs) x).next
   holds_last k [] x = refl
@@ -23,20 +18,11 @@ module _ {H X : Type 0} (step : H → X → Said H) (h : H) where
 
   first_stays : (past xs ys : List X) → length (kept (asked step h) past xs) < length xs → first_no (asked step h) past (xs ++ ys) ≡ first_no (asked step h) past xs
   first_stays past [] ys l = absurd (omega arith)
-  first_stays past (x ∷ xs) ys l =
-      (elim (asked step h past x) as (λ (t : Bool). length (cond t (x ∷ kept (asked step h) (x ∷ past) xs) (kept (asked step h) (x ∷ past) xs)) < suc (length xs) → cond t (suc (first_no (asked step h) (x ∷ past) (xs ++ ys))) zero ≡ cond t (suc (first_no (asked step h) (x ∷ past) xs)) zero) [
-        | true ↦ λ m. ap suc (first_stays (x ∷ past) xs ys (omega arith))
-        | false ↦ λ m. refl
-      ]) l
+  first_stays past (x ∷ xs) ys l = grind (arith, first_stays (x ∷ past) xs ys)
 
   first_last : (past xs : List X) (x : X) → length (kept (asked step h) past xs) ≡ length xs → (step (holds_through step (holds_after step h past) xs) x).yes ≡ false → first_no (asked step h) past (xs ++ (x ∷ [])) ≡ length xs
-  first_last past [] x l says_no = ap (λ (t : Bool). cond t (suc zero) zero) says_no
-  first_last past (y ∷ ys) x l says_no =
-      let few = kept_few (asked step h) (y ∷ past) ys in
-      (elim (asked step h past y) as (λ (t : Bool). length (cond t (y ∷ kept (asked step h) (y ∷ past) ys) (kept (asked step h) (y ∷ past) ys)) ≡ suc (length ys) → cond t (suc (first_no (asked step h) (y ∷ past) (ys ++ (x ∷ [])))) zero ≡ suc (length ys)) [
-        | true ↦ λ m. ap suc (first_last (y ∷ past) ys x (omega arith) says_no)
-        | false ↦ λ m. absurd (omega arith)
-      ]) l
+  first_last past [] x l says_no = grind arith
+  first_last past (y ∷ ys) x l says_no = grind (arith, kept_few (asked step h) (y ∷ past) ys, first_last (y ∷ past) ys x)
 
   -- what the loop has come to
   pub record Closing (xs : List X) (i count : ℕ) (first : Option ℕ) (row : List X) (now : H) : Type 0 where
