@@ -52,53 +52,30 @@ module _ {H X : Type 0} (step : H → X → Said H) (h : H) where
     pub keeps : Closing xs i count first row now → next ≡ (step now x).next → i < length xs → x ≡ get_or row i x → (step now x).yes ≡ true → Closing xs (i + 1) (count + 1) first (set row count x) next
     keeps so is inside read says_yes =
         let ks : List X = kept (asked step h) [] (take i xs) in
-        let long = length-take-le i xs (omega arith) in
         let some = few so inside in
-        let t = one_more so inside read in
-        let k = kept_last [] (take i xs) x in
-        let n = holds_last h (take i xs) x in
-        let f = first_stays [] (take i xs) (x ∷ []) in
-        record {
-          count_is = grind (arith, length-append ks (x ∷ []));
-          first_is = grind arith;
-          row_is = grind (arith, write_is xs ks count x);
-          now_is = grind arith;
-        }
+        let past = one_more so inside read in
+        grind (arith, length-take-le i xs, kept_last [] (take i xs) x, holds_last h (take i xs) x, first_stays [] (take i xs) (x ∷ []), write_is xs ks count x, length-append ks (x ∷ []))
 
     pub drops : (found : Option ℕ) → Closing xs i count first row now → next ≡ (step now x).next → i < length xs → x ≡ get_or row i x → (step now x).yes ≡ false → found ≡ option_or first (Some count) → Closing xs (i + 1) count found row next
     drops found so is inside read says_no or_is =
         let ks : List X = kept (asked step h) [] (take i xs) in
-        let long = length-take-le i xs (omega arith) in
         let some = few so inside in
-        let t = one_more so inside read in
-        let k = kept_last [] (take i xs) x in
-        let n = holds_last h (take i xs) x in
-        let f = first_stays [] (take i xs) (x ∷ []) in
-        let f' = first_last [] (take i xs) x in
-        let a = append-nil ks in
-        record {
-          count_is = grind arith;
-          first_is = grind arith;
-          row_is = grind arith;
-          now_is = grind arith;
-        }
+        let past = one_more so inside read in
+        grind (arith, length-take-le i xs, kept_last [] (take i xs) x, holds_last h (take i xs) x, first_stays [] (take i xs) (x ∷ []), first_last [] (take i xs) x, append-nil ks)
 
   -- the whole row
   module _ (xs : List X) (i count : ℕ) (first : Option ℕ) (row : List X) (now : H) where
     pub ends_count : Closing xs i count first row now → length xs ≤ i → count ≡ length (kept (asked step h) [] xs)
-    ends_count so e = so.count_is ∙ ap (λ (l : List X). length (kept (asked step h) [] l)) (take_all i xs e)
+    ends_count so e = grind (arith, take_all i xs)
 
     pub ends_first : Closing xs i count first row now → i ≡ length xs → MatchOption first (count ≡ length xs) (λ p. (p ≡ first_no (asked step h) [] xs) × (count < length xs))
-    ends_first so e = (elim first as (λ (f : Option ℕ). MatchOption f (count ≡ i) (λ p. (p ≡ first_no (asked step h) [] (take i xs)) × (count < i)) → MatchOption f (count ≡ length xs) (λ p. (p ≡ first_no (asked step h) [] xs) × (count < length xs))) [
-      | None ↦ λ all. omega arith
-      | Some p ↦ λ found. (found.0 ∙ ap (first_no (asked step h) []) (take_all i xs (omega arith)), omega (arith, found.1))
-    ]) so.first_is
+    ends_first so e = grind (arith, take_all i xs)
 
     pub ends_row : Closing xs i count first row now → length xs ≤ i → row ≡ kept (asked step h) [] xs ++ drop count xs
-    ends_row so e = so.row_is ∙ ap (λ (l : List X). kept (asked step h) [] l ++ drop count xs) (take_all i xs e)
+    ends_row so e = grind (arith, take_all i xs)
 
     pub ends_now : Closing xs i count first row now → length xs ≤ i → now ≡ holds_through step h xs
-    ends_now so e = so.now_is ∙ ap (holds_through step h) (take_all i xs e)
+    ends_now so e = grind (arith, take_all i xs)
 
     pub within : Closing xs i count first row now → i ≤ length xs → count ≤ i
     within so e = omega (arith, so.count_is, kept_few (asked step h) [] (take i xs), length-take-le i xs e)
