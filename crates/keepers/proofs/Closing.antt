@@ -1,5 +1,5 @@
 -- One turn of `close_up`, once the first i elements of the row xs were put to a keeper that held h.
-use Rattle.std.proofs.Common.{◌≡◌, ℕ, suc, zero, ◌+◌, ◌-◌, ◌<◌, ◌≤◌, Bool, true, false, cond, List, [], ◌∷◌, ◌++◌, length, get_or, take, drop, set, Some, None, Option, sym, refl, ap, subst, ◌∙◌, arith, append_assoc, append-nil, length-append, MatchOption}
+use Rattle.std.proofs.Common.{◌≡◌, ℕ, ◌+◌, ◌-◌, ◌<◌, ◌≤◌, true, false, cond, List, [], ◌∷◌, ◌++◌, length, get_or, take, drop, set, Some, None, Option, refl, arith, append_assoc, append-nil, length-append, MatchOption}
 use Rattle.std.specs.Option.{option_or}
 use Rattle.std.proofs.lemmas.List.{take_all, take_more, drop_more, length-take-le, get_or-drop, get_or-append_right, set-append_right}
 use Rattle.keepers.specs.Steps.{Said}
@@ -52,16 +52,12 @@ module _ {H X : Type 0} (step : H → X → Said H) (h : H) where
     pub keeps : Closing xs i count first row now → next ≡ (step now x).next → i < length xs → x ≡ get_or row i x → (step now x).yes ≡ true → Closing xs (i + 1) (count + 1) first (set row count x) next
     keeps so is inside read says_yes =
         let ks : List X = kept (asked step h) [] (take i xs) in
-        let some = few so inside in
-        let past = one_more so inside read in
-        grind (arith, length-take-le i xs, kept_last [] (take i xs) x, holds_last h (take i xs) x, first_stays [] (take i xs) (x ∷ []), write_is xs ks count x, length-append ks (x ∷ []))
+        grind (arith, few so inside, one_more so inside read, length-take-le i xs, kept_last [] (take i xs) x, holds_last h (take i xs) x, first_stays [] (take i xs) (x ∷ []), write_is xs ks count x, length-append ks (x ∷ []))
 
     pub drops : (found : Option ℕ) → Closing xs i count first row now → next ≡ (step now x).next → i < length xs → x ≡ get_or row i x → (step now x).yes ≡ false → found ≡ option_or first (Some count) → Closing xs (i + 1) count found row next
     drops found so is inside read says_no or_is =
         let ks : List X = kept (asked step h) [] (take i xs) in
-        let some = few so inside in
-        let past = one_more so inside read in
-        grind (arith, length-take-le i xs, kept_last [] (take i xs) x, holds_last h (take i xs) x, first_stays [] (take i xs) (x ∷ []), first_last [] (take i xs) x, append-nil ks)
+        grind (arith, few so inside, one_more so inside read, length-take-le i xs, kept_last [] (take i xs) x, holds_last h (take i xs) x, first_stays [] (take i xs) (x ∷ []), first_last [] (take i xs) x, append-nil ks)
 
   -- the whole row
   module _ (xs : List X) (i count : ℕ) (first : Option ℕ) (row : List X) (now : H) where
