@@ -42,22 +42,22 @@ module _ {H X : Type 0} (step : H → X → Said H) (h : H) where
   write_is : (xs ks : List X) (count : ℕ) (x : X) → count ≡ length ks → count < length xs → set (ks ++ drop count xs) count x ≡ (ks ++ (x ∷ [])) ++ drop (count + 1) xs
   write_is xs ks count x long inside = grind (arith, set-append_right ks (drop count xs) count count x, drop_more xs count x, append_assoc ks (x ∷ []) (drop (count + 1) xs))
 
-  module _ (xs : List X) (i count : ℕ) (first : Option ℕ) (row : List X) (now next : H) (x : X) where
-    few : Closing xs i count first row now → i < length xs → count ≤ i
-    few so inside = grind (arith, kept_few (asked step h) [] (take i xs), length-take-le i xs)
+  pub within : (xs : List X) (i count : ℕ) (first : Option ℕ) (row : List X) (now : H) → Closing xs i count first row now → i ≤ length xs → count ≤ i
+  within xs i count first row now so e = grind (arith, kept_few (asked step h) [] (take i xs), length-take-le i xs)
 
+  module _ (xs : List X) (i count : ℕ) (first : Option ℕ) (row : List X) (now next : H) (x : X) where
     one_more : Closing xs i count first row now → i < length xs → x ≡ get_or row i x → take (i + 1) xs ≡ take i xs ++ (x ∷ [])
-    one_more so inside read = grind (arith, few so inside, take_more xs i x, read_is xs (kept (asked step h) [] (take i xs)) row i count x)
+    one_more so inside read = grind (arith, within xs i count first row now so, take_more xs i x, read_is xs (kept (asked step h) [] (take i xs)) row i count x)
 
     pub keeps : Closing xs i count first row now → next ≡ (step now x).next → i < length xs → x ≡ get_or row i x → (step now x).yes ≡ true → Closing xs (i + 1) (count + 1) first (set row count x) next
     keeps so is inside read says_yes =
         let ks : List X = kept (asked step h) [] (take i xs) in
-        grind (arith, few so inside, one_more so inside read, length-take-le i xs, kept_last [] (take i xs) x, holds_last h (take i xs) x, first_stays [] (take i xs) (x ∷ []), write_is xs ks count x, length-append ks (x ∷ []))
+        grind (arith, within xs i count first row now so, one_more so inside read, length-take-le i xs, kept_last [] (take i xs) x, holds_last h (take i xs) x, first_stays [] (take i xs) (x ∷ []), write_is xs ks count x, length-append ks (x ∷ []))
 
     pub drops : (found : Option ℕ) → Closing xs i count first row now → next ≡ (step now x).next → i < length xs → x ≡ get_or row i x → (step now x).yes ≡ false → found ≡ option_or first (Some count) → Closing xs (i + 1) count found row next
     drops found so is inside read says_no or_is =
         let ks : List X = kept (asked step h) [] (take i xs) in
-        grind (arith, few so inside, one_more so inside read, length-take-le i xs, kept_last [] (take i xs) x, holds_last h (take i xs) x, first_stays [] (take i xs) (x ∷ []), first_last [] (take i xs) x, append-nil ks)
+        grind (arith, within xs i count first row now so, one_more so inside read, length-take-le i xs, kept_last [] (take i xs) x, holds_last h (take i xs) x, first_stays [] (take i xs) (x ∷ []), first_last [] (take i xs) x, append-nil ks)
 
   -- the whole row
   module _ (xs : List X) (i count : ℕ) (first : Option ℕ) (row : List X) (now : H) where
@@ -72,8 +72,5 @@ module _ {H X : Type 0} (step : H → X → Said H) (h : H) where
 
     pub ends_now : Closing xs i count first row now → length xs ≤ i → now ≡ holds_through step h xs
     ends_now so e = grind (arith, take_all i xs)
-
-    pub within : Closing xs i count first row now → i ≤ length xs → count ≤ i
-    within so e = omega (arith, so.count_is, kept_few (asked step h) [] (take i xs), length-take-le i xs e)
 
 pub ruleset closing = (begins, keeps, drops, ends_count, ends_first, ends_row, ends_now, within)
