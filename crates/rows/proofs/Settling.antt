@@ -34,27 +34,21 @@ module _ {X : Type 0} (ordering : X → X → Ordering) (lawful : Lawful orderin
         → Gap (Le ordering) 0 n (look x xs) h → Over (Le ordering) 0 n (look x xs) h x
         → Ordered (Le ordering) 0 n (look x (rise ordering fuel 0 x xs h).row)
     unfolding rise
-    rises zero xs h f l len gap over = fills (Le ordering) 0 n (look x xs) (look x (set xs h x)) h x (writes x xs h x (omega arith)) gap over (λ p e. absurd (omega arith))
+    rises zero xs h f l len gap over = fills _ _ _ _ _ h x (writes x xs h x (omega arith)) gap over (λ p e. absurd (omega arith))
     rises (suc fuel) xs h f l len gap over =
         let y : X = get_or xs (parent h) x in
         let ys : List X = set xs h y in
-        let stay = fills (Le ordering) 0 n (look x xs) (look x (set xs h x)) h x (writes x xs h x (omega arith)) gap over in
+        let stay = fills _ _ _ _ _ h x (writes x xs h x (omega arith)) gap over in
         let on = λ (a : 0 < h) (s : exceeds ordering x y ≡ true).
         let e : Edge 0 n (parent h) h = grind arith in
         let w = writes x xs h y (omega arith) in
         rises fuel ys (parent h) (omega arith) (omega arith) (simp length-set (omega arith))
-        (climbs (Le ordering) 0 n (look x xs) (look x ys) lawful.transitive h (parent h) e w gap)
-        (climbs_over (Le ordering) 0 n (look x xs) (look x ys) lawful.transitive h (parent h) e w gap x (le_if_exceeds ordering lawful x y s)) in
+        (climbs _ _ _ _ _ lawful.transitive h _ e w gap)
+        (climbs_over _ _ _ _ _ lawful.transitive h _ e w gap x (le_if_exceeds ordering lawful x y s)) in
         grind (arith, nat_tests, stay, on)
 
   chosen : (low : ℕ) (xs : List X) (h : ℕ) → h < length xs / 2 → Chosen ordering x low xs h (greater_child ordering x xs h)
-  chosen low xs h l =
-      let self = le_self ordering lawful in
-      let above = le_if_exceeds ordering lawful (look x xs (2 * h + 1)) (look x xs (2 * h + 2)) in
-      record {
-        edge = λ g. grind (arith, nat_tests);
-        best = λ k e. grind (arith, nat_tests, cases_eq k (2 * h + 1));
-      }
+  chosen low xs h l = grind (arith, nat_tests, le_self ordering lawful, le_if_exceeds ordering lawful (look x xs (2 * h + 1)) (look x xs (2 * h + 2)))
 
   -- downwards, while a child exceeds x
   module _ (low : ℕ) where
@@ -68,7 +62,7 @@ module _ {X : Type 0} (ordering : X → X → Ordering) (lawful : Lawful orderin
         let c : ℕ = greater_child ordering x xs h in
         let y : X = get_or xs c x in
         let ys : List X = set xs h y in
-        let stay = λ (over : Over (Le ordering) low n (look x xs) h x). fills (Le ordering) low n (look x xs) (look x (set xs h x)) h x (writes x xs h x l) gap over under in
+        let stay = λ (over : Over (Le ordering) low n (look x xs) h x). fills _ _ _ _ _ h x (writes x xs h x l) gap over under in
         let rest = λ (a : h < n / 2) (s : below ordering x y ≡ false). stay (λ k e. lawful.transitive (look x xs k) y x ((chosen low xs h a).best k e) (le_unless_below ordering lawful x y s)) in
         let on = λ (a : h < n / 2) (s : below ordering x y ≡ true).
         let ch = chosen low xs h a in
@@ -76,8 +70,8 @@ module _ {X : Type 0} (ordering : X → X → Ordering) (lawful : Lawful orderin
         let w = writes x xs h y l in
         let m : length ys ≡ n = length-set xs h y in
         rw m at (falls fuel ys c (omega arith) (omega arith) (omega arith)
-        (rw m (sinks (Le ordering) low n (look x xs) (look x ys) h c e w ch.best gap))
-        (rw m (sinks_under (Le ordering) low n (look x xs) (look x ys) h c e w x (le_if_below ordering x y s)))) in
+        (rw m (sinks _ _ _ _ _ h c e w ch.best gap))
+        (rw m (sinks_under (Le ordering) _ _ _ _ h c e w x (le_if_below ordering x y s)))) in
         grind (arith, nat_tests, stay, rest, on)
 
   -- down to a leaf, whatever x is
@@ -92,11 +86,11 @@ module _ {X : Type 0} (ordering : X → X → Ordering) (lawful : Lawful orderin
         let y : X = get_or xs c x in
         let ys : List X = set xs h y in
         let w = writes x xs h x l in
-        let rest = refill (Le ordering) low n (look x xs) (look x (set xs h x)) h x w gap in
+        let rest = refill _ _ _ _ _ h x w gap in
         let on = λ (a : h < n / 2).
         let ch = chosen low xs h a in
         let e = ch.edge g in
         let m : length ys ≡ n = length-set xs h y in
         rw m at (lands fuel ys c (omega arith) (omega arith) (omega arith)
-        (rw m (sinks (Le ordering) low n (look x xs) (look x ys) h c e (writes x xs h y l) ch.best gap))) in
+        (rw m (sinks _ _ _ _ _ h c e (writes x xs h y l) ch.best gap))) in
         grind (arith, nat_tests, rest, on)
