@@ -31,14 +31,12 @@ module _ {X : Type 0} (ordering : X → X → Ordering) where
   pub rests : (start : ℕ) (x y : X) (row : List X) (hole : ℕ) → hole < length row → y ≡ get_or row (parent hole) y → exceeds ordering x y ≡ false → risen start x row hole ≡ put x row hole
   unfolding risen rise
   rests start x y row zero l e t = refl
-  rests start x y row (suc h) l e t = let read = get_or_read row (parent (suc h)) y (omega arith) e x in grind (arith, nat_tests)
+  rests start x y row (suc h) l e t = grind (arith, nat_tests, get_or_read row (parent (suc h)) y)
 
   pub moves : (start : ℕ) (x y : X) (row : List X) (hole p : ℕ) → start < hole → hole < length row → p ≡ parent hole → y ≡ get_or row p y → exceeds ordering x y ≡ true → risen start x (set row hole y) p ≡ risen start x row hole
   unfolding risen rise
   moves start x y row zero p above l at e t = absurd (omega arith)
   moves start x y row (suc h) p above l at e t =
-      let read = get_or_read row p y (omega arith) e x in
-      let fuel = any_fuel p h start x (set row (suc h) y) p (omega arith) (omega arith) in
-      grind (arith, nat_tests)
+      grind (arith, nat_tests, get_or_read row p y, any_fuel p h start x (set row (suc h) y) p)
 
 pub ruleset rises = (begins, stops, rests, moves)

@@ -20,9 +20,7 @@ module _ {X : Type 0} (ordering : X → X → Ordering) where
     any_fuel (suc f) zero x row hole a b = grind (arith, nat_tests)
     any_fuel (suc f) (suc g) x row hole a b =
         let c = greater_child ordering x row hole in
-        let w = child_within x row hole in
-        let more = any_fuel f g x (set row hole (get_or row c x)) c in
-        grind (arith, nat_tests, length-set)
+        grind (arith, nat_tests, length-set, child_within x row hole, any_fuel f g x (set row hole (get_or row c x)) c)
 
     abbrev pub Child : List X → ℕ → ℕ → Type 0
     Child row hole c = (d : X) → c ≡ greater_child ordering d row hole
@@ -41,17 +39,12 @@ module _ {X : Type 0} (ordering : X → X → Ordering) where
     pub rests : (x y : X) (row : List X) (hole c : ℕ) → hole < length row / 2 → Child row hole c → y ≡ get_or row c y → moves x y ≡ false → sinking x row hole ≡ put x row hole
     unfolding sinking sink
     rests x y [] hole c inner is read t = refl
-    rests x y (z ∷ zs) hole c inner is read t =
-        let w = child_within x (z ∷ zs) hole inner in
-        let seen = get_or_read (z ∷ zs) c y (omega (arith, is x)) read x in
-        grind (arith, nat_tests, is x)
+    rests x y (z ∷ zs) hole c inner is read t = grind (arith, nat_tests, is x, child_within x (z ∷ zs) hole inner, get_or_read (z ∷ zs) c y)
 
     pub turns : (x y : X) (row : List X) (hole c : ℕ) → hole < length row / 2 → Child row hole c → y ≡ get_or row c y → moves x y ≡ true → sinking x (set row hole y) c ≡ sinking x row hole
     unfolding sinking sink
     turns x y [] hole c inner is read t = absurd (omega arith)
     turns x y (z ∷ zs) hole c inner is read t =
         let row : List X = z ∷ zs in
-        let w = child_within x row hole inner in
-        let seen = get_or_read row c y (omega (arith, is x)) read x in
-        let fuel = any_fuel (length (set row hole y)) (length zs) x (set row hole y) c (simp length-set (omega (arith, is x))) (simp length-set (omega (arith, is x))) in
-        grind (arith, nat_tests, is x)
+        let next : List X = set row hole y in
+        grind (arith, nat_tests, length-set, is x, child_within x row hole inner, get_or_read row c y, any_fuel (length next) (length zs) x next c)
