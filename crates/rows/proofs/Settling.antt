@@ -1,7 +1,6 @@
 -- The sifts put a row in order, seen from the hole. The moved value x is also what a read past the end gives.
 use Rattle.std.proofs.Common.{◌≡◌, ℕ, zero, suc, ◌+◌, ◌*◌, ◌/◌, ◌<◌, ◌≤◌, true, false, List, length, get_or, set, Ordering, arith, length-set, get_or-set_other, get_or-set_same}
 use Rattle.std.proofs.lemmas.Bool.Decides.{nat_tests}
-use Rattle.std.proofs.lemmas.Bool.{cases_eq}
 use Rattle.elements.specs.Orders.{exceeds, below, Lawful}
 use Rattle.rows.specs.Sifts.{Sifted, parent, rise, greater_child, sink}
 use Rattle.rows.proofs.Holes.{Edge, Written, Ordered, Gap, Over, Under, fills, refill, climbs, climbs_over, sinks, sinks_under}

@@ -1,4 +1,4 @@
-use Rattle.std.proofs.Common.{◌∙◌, sym, arith, rules}
+use Rattle.std.proofs.Common.{◌∙◌, sym, rules}
 use Rattle.rows.proofs.Sinks.{begins, ends, rests, turns}
 use Rattle.rows.proofs.sift.sink.Goals as goal
 use Rattle.rows.proofs.sift.sink.Goals.{then-hole-row, else-hole-row+then-not-moves}
