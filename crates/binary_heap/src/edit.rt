@@ -93,8 +93,8 @@ impl<'a, T: Element> PeekMut<'a, T> {
         heap
     }
 
-    // Writes the front into `place`, if there is one, and into `wrote` whether it did. Both are lent, as
-    // all memory of a box is.
+    // Writes the front into `place`, if there is one, and into `wrote` whether it did: the call
+    // has this shape by a rule of the heap, docs/HEAP.md.
     pub fn pop(self, place: &mut T, wrote: &mut bool) -> BinaryHeap<'a, T>
         ensures heap { HoldsOn self.entry.heap.memory result (popped T.ordering (edited self.entry).heap) }
         ensures place { place.new ≡ place_after (edited self.entry).heap.row place.old }

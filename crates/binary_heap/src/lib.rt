@@ -69,6 +69,8 @@ impl<'a, T: Element> BinaryHeap<'a, T> {
         self.row().first()
     }
 
+    // To read; what is written goes by a range of `memory`, since a `&mut` that a method hands on is not
+    // followed back to the memory.
     fn row(&self) -> &[T]
         ensures { result.now ≡ row_of self.now }
     {

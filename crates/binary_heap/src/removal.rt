@@ -21,6 +21,7 @@ impl<'a, T: Element> BinaryHeap<'a, T> {
         ensures keeper { K.holds keeper.new ≡ holds_on K.step (K.holds keeper.old) (front (row_of self.old)) }
     {
         let x = *self.peek()?;
+        // `then` would nest the option that `pop` answers.
         if keeper.keep(&x) { self.pop() } else { None }
     }
 

@@ -16,6 +16,10 @@ mod tests {
     use supplies::repeat::Repeat;
     use supplies::supply::Supply;
 
+    fn refusal_of<A: Drop, F: Fault + Drop>(answer: Result<A, F>) -> Option<Refusal> {
+        answer.err().map(|fault| fault.refusal())
+    }
+
     #[test]
     fn no_memory(rt: HostRuntime) {
         let mut places: [u64; 0] = [];
@@ -24,7 +28,7 @@ mod tests {
         assert!(rt; heap.is_empty());
         assert!(rt; heap.pop().is_none());
         assert!(rt; heap.peek().is_none());
-        let refusal = heap.push(7).err().map(|fault| fault.refusal());
+        let refusal = refusal_of(heap.push(7));
         assert_eq!(rt; refusal, Some(Refusal::by_with(2, 1)));
     }
 
@@ -75,17 +79,11 @@ mod tests {
         let mut heap = BinaryHeap::new(&mut places);
         assert!(rt; heap.push(1).is_ok());
         assert!(rt; heap.try_reserve(3).is_ok());
-        let refusal = heap.try_reserve(5).err().map(|fault| fault.refusal());
+        let refusal = refusal_of(heap.try_reserve(5));
         assert_eq!(rt; refusal, Some(Refusal::by_with(2, 2)));
-        let refusal = heap
-            .try_reserve(usize::MAX)
-            .err()
-            .map(|fault| fault.refusal());
+        let refusal = refusal_of(heap.try_reserve(usize::MAX));
         assert_eq!(rt; refusal, Some(Refusal::by(1)), "2 to the 64th");
-        let refusal = heap
-            .try_reserve(usize::MAX - 1)
-            .err()
-            .map(|fault| fault.refusal());
+        let refusal = refusal_of(heap.try_reserve(usize::MAX - 1));
         assert_eq!(rt;
             refusal.map(|refusal| refusal.number),
             Some(2),
@@ -131,7 +129,7 @@ mod tests {
         let mut places = [0u64; 3];
         let mut heap = BinaryHeap::new(&mut places);
         assert!(rt; heap.push(7).is_ok() && heap.push(9).is_ok());
-        let refusal = heap.adopt(4).err().map(|fault| fault.refusal());
+        let refusal = refusal_of(heap.adopt(4));
         assert_eq!(rt; refusal, Some(Refusal::by(3)));
         assert_eq!(rt; heap.pop(), Some(9));
         heap.clear();
@@ -145,7 +143,7 @@ mod tests {
         let mut places = [0u64; 2];
         let mut heap = BinaryHeap::new(&mut places);
         let mut supply = Lent::new(&[1u64, 2, 3]);
-        let refusal = heap.extend(&mut supply).err().map(|fault| fault.refusal());
+        let refusal = refusal_of(heap.extend(&mut supply));
         assert_eq!(rt; refusal, Some(Refusal::by_with(2, 2)));
         assert_eq!(rt; supply.next(), Some(3));
         assert!(rt; places == [2, 1]);
@@ -219,7 +217,7 @@ mod tests {
         assert_eq!(rt; heap.len(), 4);
         heap.clear();
         let mut edit = heap.peek_mut();
-        let refusal = edit.set(1).err().map(|fault| fault.refusal());
+        let refusal = refusal_of(edit.set(1));
         assert_eq!(rt; refusal, Some(Refusal::by(4)));
         let heap = edit.pop(&mut place, &mut wrote);
         assert!(rt; !wrote && place == 0 && heap.is_empty());

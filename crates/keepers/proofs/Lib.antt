@@ -1,2 +1,3 @@
+pub mod Closed
 pub mod Closing
 pub mod Kept

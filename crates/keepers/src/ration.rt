@@ -25,6 +25,7 @@ impl<T: Copy> Keeper<T> for Ration {
     ghost step = { ration_step };
 
     fn keep(&mut self, _x: &T) -> bool {
+        // `checked_sub` answers an option, and this a bool.
         if self.left == 0 {
             return false;
         }

@@ -40,6 +40,7 @@ pub trait Kind: Element {
     ghost faithful: { Faithful codec };
 }
 
+// One of eight bytes, 0 behind them.
 fn byte_of(bytes: [u8; 8], i: usize) -> u8
     ensures { result ≡ slice_index bytes i }
 {
@@ -77,6 +78,7 @@ impl Kind for u64 {
     }
 }
 
+// Like a number in its members, but its bytes are three fields.
 impl Kind for Clause {
     const MARK: [u8; 2] = *b"KC";
 

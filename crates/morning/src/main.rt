@@ -120,13 +120,12 @@ fn show_front(
 fn hand_out(rt: &HostRuntime, heap: &mut BinaryHeap<'_, Clause>) -> io::Result<usize>
     ensures { IfOk result (λ count. (count ≡ length (held heap.old).row) × ((held heap.new).row ≡ [])) }
 {
-    let mut count = 0;
+    let count = heap.len();
     'out: while let Some(clause) = heap.pop() {
         let rank = clause.rank();
         let number = clause.number();
         let discount = clause.discount();
         println!(rt; "handed out: clause {number} of rank {rank}, {discount} per mille")?;
-        count += 1;
     }
     Ok(count)
 }
@@ -168,7 +167,7 @@ fn main(rt: HostRuntime) -> io::Result<()> {
     match heap.extend(&mut Lent::new(&standing)) {
         Ok(count) => println!(rt; "{count} standing clauses taken in")?,
         Err(fault) => {
-            let fault = ArrivalFault::Heap(fault);
+            let fault = ArrivalFault::from(fault);
             println!(rt; "standing clauses: {fault}")?;
         }
     }

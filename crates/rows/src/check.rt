@@ -10,6 +10,7 @@ use elements::element::{Element, exceeds};
 pub fn first_out_of_order<T: Element>(list: &[T]) -> Option<usize>
     ensures { MatchOption result (Heaped T.ordering list.now) (λ p. FirstOutOfOrder T.ordering list.now p) }
 {
+    // A rule of the checker: too few for a parent is tested first.
     if list.len() < 2 {
         return None;
     }

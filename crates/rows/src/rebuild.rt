@@ -4,7 +4,7 @@ ghost use Rattle.rows.specs.Rebuilds.{highest_bit, rebuilds, rebuilt, sift_ups, 
 use crate::sift::{sift_down, sift_up};
 use elements::element::Element;
 
-// `ilog2` would answer the same; by leading zeros it is the text of the Rust, whose choices it has to share.
+// By leading zeros as in the Rust, whose choices it has to share; `ilog2` would answer the same.
 fn log2_fast(x: usize) -> usize
     requires { 0 < x }
     ensures is { result ≡ highest_bit x }
@@ -38,6 +38,7 @@ pub fn rebuild<T: Element>(row: &mut [T])
     }
 }
 
+// By position, which is what a sift is given.
 #[tactic(auto, using(crate::proofs::Turns::ups))]
 fn sift_up_each<T: Element>(row: &mut [T], start: usize)
     requires { start ≤ length row.old }

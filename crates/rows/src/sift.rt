@@ -5,7 +5,8 @@ ghost use Rattle.rows.specs.Moves.{Computes};
 use elements::element::{Element, exceeds, is_below};
 
 // Takes out the value at `pos`, moves each parent that it exceeds down into the hole, not above
-// `start`, and puts it back; answers where. The hole goes from parent to parent, which no range does.
+// `start`, and puts it back; answers where. A `loop`, since no range goes from parent to parent. That
+// `pos` lies in the row is what the Rust asks of its unsafe sifts, and so it is asked of each here.
 #[tactic(auto, using(crate::proofs::Rises::rises))]
 pub fn sift_up<T: Element>(row: &mut [T], start: usize, pos: usize) -> usize
     requires { pos < length row.old }
@@ -49,7 +50,8 @@ fn greater_child<T: Element>(row: &[T], p: usize) -> usize
 }
 
 // Takes out the value at `pos`, moves the greater child up into the hole while `moves` says so of
-// the value and that child, and puts the value back; answers where.
+// the value and that child, and puts the value back; answers where. A `loop`, since no range goes from
+// child to child.
 fn sink<T: Element, F: Fn(&T, &T) -> bool>(row: &mut [T], pos: usize, moves: F) -> usize
     requires pos { pos < length row.old }
     requires moves { F.IsAlwaysCallable moves }

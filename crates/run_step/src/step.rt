@@ -19,6 +19,7 @@ pub fn step<'a, K: Kind>(heaps: Heaps<'a, K>, record: Record<'_>, list: &mut [K]
     ensures { StepsInto K.Element.ordering K.codec list.new (in_use_of heaps.entry.state) (held heaps.entry.other) (asked «record».entry) result }
 {
     let Heaps { state, mut other } = heaps;
+    // Together, since each refuses by the other.
     match (state, record) {
         (Closed(mut heap), Record::Push(bytes)) => at_rest(push(&mut heap, bytes), heap, other),
         (Closed(mut heap), Record::Pop) => at_rest(Ok(Element(heap.pop())), heap, other),
@@ -49,7 +50,7 @@ pub fn step<'a, K: Kind>(heaps: Heaps<'a, K>, record: Record<'_>, list: &mut [K]
             at_rest(Ok(Element(front)), heap, other)
         }
         (Open(edit), Record::Close) => at_rest(Ok(Done), edit.close(), other),
-        // Also `Extend`, until it is built.
+        // `Extend` is among them until it is built.
         (Closed(heap), _) => at_rest(Err(NoEdit), heap, other),
         (Open(edit), _) => in_edit(Err(EditOpen), edit, other),
     }
