@@ -1,6 +1,6 @@
 -- A number and its bytes come back from each other.
 use Rattle.std.specs.Prelude.{◌≡◌, ℕ, zero, suc, ◌+◌, ◌*◌, ◌/◌, ◌%◌, ◌^◌, ◌<◌, ◌≤◌, List, [], ◌∷◌, ◌++◌, length, take, drop, slice_index_or, refl, All}
-use Rattle.std.proofs.Common.{sym, ap, ap₂, subst, ◌∙◌, append_assoc, add_comm, mul_assoc, mul_comm, pow-suc, mod-eq_of_lt, arith}
+use Rattle.std.proofs.Common.{append_assoc, add_comm, mul_comm, pow-suc, mod-eq_of_lt, arith}
 use Rattle.std.proofs.Math.Nat.{one-le-pow, add-mul-div_right, mul-add-mod_self_right}
 use Rattle.std.proofs.Math.Arith.{digits_lt, digits_div, mod-mul}
 use Rattle.std.proofs.lemmas.List.Elements.{All-get_or}
@@ -16,37 +16,30 @@ power k = one-le-pow k 256 (omega arith)
 number_at_lt : (k i : ℕ) (bytes : List ℕ) → All Byte bytes → i + k ≤ length bytes → number_at k i bytes < 256 ^ k
 number_at_lt zero i bytes small h = omega arith
 number_at_lt (suc k) i bytes small h =
-    subst (λ (x : ℕ). number_at (suc k) i bytes < x) (sym (pow-suc 256 k ∙ mul_comm (256 ^ k) 256))
-    (digits_lt (All-get_or Byte bytes i 0 (omega arith) small) (number_at_lt k (i + 1) bytes small (omega arith)))
+    rw (pow-suc 256 k, mul_comm (256 ^ k) 256) (digits_lt (All-get_or Byte bytes i 0 (omega arith) small) (number_at_lt k (i + 1) bytes small (omega arith)))
 
 -- what stands above the low bytes does not show in them
 bytes_of_low : (k c n : ℕ) → bytes_of k (c * 256 ^ k + n) ≡ bytes_of k n
 bytes_of_low zero c n = refl
-bytes_of_low (suc zero) c n = ap (λ (b : ℕ). b ∷ []) (mul-add-mod_self_right c 256 n)
+bytes_of_low (suc zero) c n = rw (mul-add-mod_self_right c 256 n)
 bytes_of_low (suc (suc k)) c n =
     let p : ℕ = 256 ^ suc k in
-    let wide : c * 256 ^ suc (suc k) ≡ c * 256 * p = ap (λ (x : ℕ). c * x) (pow-suc 256 (suc k) ∙ mul_comm p 256) ∙ sym (mul_assoc c 256 p) in
-    let top : (c * 256 * p + n) / p ≡ c * 256 + n / p =
-    ap (λ (x : ℕ). x / p) (add_comm (c * 256 * p) n) ∙ add-mul-div_right n (c * 256) (power (suc k)) ∙ add_comm (n / p) (c * 256)
-    in
-    ap₂ {C = List ℕ} (λ (b : ℕ) (bs : List ℕ). b ∷ bs)
-    (ap (λ (x : ℕ). (x + n) / p % 256) wide ∙ ap (λ (x : ℕ). x % 256) top ∙ mul-add-mod_self_right c 256 (n / p))
-    (ap (λ (x : ℕ). bytes_of (suc k) (x + n)) wide ∙ bytes_of_low (suc k) (c * 256) n)
+    let wide : c * 256 ^ suc (suc k) ≡ c * 256 * p = rw (pow-suc 256 (suc k)) (omega arith) in
+    let top : (c * 256 * p + n) / p ≡ c * 256 + n / p = rw (add_comm (c * 256 * p) n, add-mul-div_right n (c * 256) (power (suc k))) (omega arith) in
+    rw (wide, top, mul-add-mod_self_right c 256 (n / p), bytes_of_low (suc k) (c * 256) n)
 
 pub bytes_back : (k i : ℕ) (bytes : List ℕ) → All Byte bytes → i + k ≤ length bytes → bytes_of k (number_at k i bytes) ≡ take k (drop i bytes)
 bytes_back zero i bytes small h = refl
-bytes_back (suc zero) i bytes small h =
-    let b : ℕ = slice_index_or bytes i 0 in
-    let is : (b * 1 + 0) % 256 ≡ b = omega (arith, All-get_or Byte bytes i 0 (omega arith) small) in
-    ap (λ (x : ℕ). x ∷ []) is ∙ ap (take 1) (sym (drop_more bytes i 0 (omega arith)))
+bytes_back (suc zero) i bytes small h = grind (arith, drop_more bytes i 0, All-get_or Byte bytes i 0 (omega arith) small)
 bytes_back (suc (suc k)) i bytes small h =
     let b : ℕ = slice_index_or bytes i 0 in
-    let m : ℕ = number_at (suc k) (i + 1) bytes in
-    let top : (b * 256 ^ suc k + m) / 256 ^ suc k ≡ b = digits_div b (number_at_lt (suc k) (i + 1) bytes small (omega arith)) in
-    ap₂ {C = List ℕ} (λ (x : ℕ) (xs : List ℕ). x ∷ xs)
-    (ap (λ (x : ℕ). x % 256) top ∙ mod-eq_of_lt (All-get_or Byte bytes i 0 (omega arith) small))
-    (bytes_of_low (suc k) b m ∙ bytes_back (suc k) (i + 1) bytes small (omega arith))
-    ∙ ap (take (suc (suc k))) (sym (drop_more bytes i 0 (omega arith)))
+    rw (
+      drop_more bytes i 0 (omega arith),
+      digits_div b (number_at_lt (suc k) (i + 1) bytes small (omega arith)),
+      mod-eq_of_lt (All-get_or Byte bytes i 0 (omega arith) small),
+      bytes_of_low (suc k) b (number_at (suc k) (i + 1) bytes),
+      bytes_back (suc k) (i + 1) bytes small (omega arith),
+    )
 
 -- the bytes of a number, between others, mean the number
 pub value_back : (k n : ℕ) (before after : List ℕ) → number_at k (length before) (before ++ (bytes_of k n ++ after)) ≡ n % 256 ^ k
@@ -55,10 +48,6 @@ value_back (suc zero) n before after = omega (arith, get_or_at before (n % 256) 
 value_back (suc (suc k)) n before after =
     let d : ℕ = n / 256 ^ suc k % 256 in
     let low : List ℕ = bytes_of (suc k) n ++ after in
-    let next : length before + 1 ≡ length (before ++ (d ∷ [])) = omega (arith, length-append before (d ∷ [])) in
-    let one : slice_index_or (before ++ (d ∷ low)) (length before) 0 ≡ d = get_or_at before d low 0 (length before) refl in
-    let rest : number_at (suc k) (length before + 1) (before ++ (d ∷ low)) ≡ n % 256 ^ suc k =
-    ap₂ (λ (i : ℕ) (l : List ℕ). number_at (suc k) i l) next (sym (append_assoc before (d ∷ []) low)) ∙ value_back (suc k) n (before ++ (d ∷ [])) after
-    in
-    ap₂ (λ (x y : ℕ). x * 256 ^ suc k + y) one rest
-    ∙ sym (ap (λ (x : ℕ). n % x) (pow-suc 256 (suc k) ∙ mul_comm (256 ^ suc k) 256) ∙ mod-mul n (omega arith) (power (suc k)))
+    let rest = value_back (suc k) n (before ++ (d ∷ [])) after in
+    let next : number_at (suc k) (length before + 1) (before ++ (d ∷ low)) ≡ n % 256 ^ suc k = simp (append_assoc, length-append) at rest in
+    rw (pow-suc 256 (suc k), mul_comm (256 ^ suc k) 256, mod-mul n {m = 256} (omega arith) (power (suc k)), get_or_at before d low 0 (length before) refl, next)
