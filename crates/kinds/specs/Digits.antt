@@ -1,7 +1,7 @@
 -- A number and its bytes come back from each other.
 use Rattle.std.specs.Prelude.{◌≡◌, ℕ, zero, suc, ◌+◌, ◌*◌, ◌/◌, ◌%◌, ◌^◌, ◌<◌, ◌≤◌, List, [], ◌∷◌, ◌++◌, length, take, drop, slice_index_or, refl, All}
-use Rattle.std.proofs.Common.{append_assoc, add_comm, mul_comm, pow-suc, mod-eq_of_lt, arith}
-use Rattle.std.proofs.Math.Nat.{one-le-pow, add-mul-div_right, mul-add-mod_self_right}
+use Rattle.std.proofs.Common.{append_assoc, mul_comm, pow-suc, mod-eq_of_lt, arith}
+use Rattle.std.proofs.Math.Nat.{one-le-pow, mul-add-div_right, mul-add-mod_self_right}
 use Rattle.std.proofs.Math.Arith.{digits_lt, digits_div, mod-mul}
 use Rattle.std.proofs.lemmas.List.Elements.{All-get_or}
 use Rattle.std.proofs.lemmas.List.{drop_more, get_or_at, length-append}
@@ -23,10 +23,8 @@ bytes_of_low : (k c n : ℕ) → bytes_of k (c * 256 ^ k + n) ≡ bytes_of k n
 bytes_of_low zero c n = refl
 bytes_of_low (suc zero) c n = rw (mul-add-mod_self_right c 256 n)
 bytes_of_low (suc (suc k)) c n =
-    let p : ℕ = 256 ^ suc k in
-    let wide : c * 256 ^ suc (suc k) ≡ c * 256 * p = rw (pow-suc 256 (suc k)) (omega arith) in
-    let top : (c * 256 * p + n) / p ≡ c * 256 + n / p = rw (add_comm (c * 256 * p) n, add-mul-div_right n (c * 256) (power (suc k))) (omega arith) in
-    rw (wide, top, mul-add-mod_self_right c 256 (n / p), bytes_of_low (suc k) (c * 256) n)
+    let wide : c * 256 ^ suc (suc k) ≡ c * 256 * 256 ^ suc k = rw (pow-suc 256 (suc k)) (omega arith) in
+    rw (wide, mul-add-div_right (power (suc k)) (c * 256) n, mul-add-mod_self_right c 256 (n / 256 ^ suc k), bytes_of_low (suc k) (c * 256) n)
 
 pub bytes_back : (k i : ℕ) (bytes : List ℕ) → All Byte bytes → i + k ≤ length bytes → bytes_of k (number_at k i bytes) ≡ take k (drop i bytes)
 bytes_back zero i bytes small h = refl
