@@ -33,7 +33,7 @@ impl<'a, T: Element> BinaryHeap<'a, T> {
         }
     }
 
-    // Sifts the front down; answers where it then stands, 0 on an empty row.
+    // Sifts the front down; answers where it then stands, and 0 on an empty row, as the definition does.
     #[tactic(auto, using(heap_model::proofs::Editing::sifts_none))]
     fn settle(&mut self) -> usize
         ensures heap { HoldsOn self.old.memory self.new (leave (sift_down T.ordering (row_of self.old) 0).row (held self.old)) }

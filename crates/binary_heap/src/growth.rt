@@ -24,7 +24,7 @@ impl<'a, T: Element> BinaryHeap<'a, T> {
         let count = extend_places(&mut self.memory[0..end], start, supply);
         self.len = start + count;
         if supply.more() {
-            return Err(HeapFault::Row(TryReserveErrorKind::AllocError { count }));
+            return Err(TryReserveErrorKind::AllocError { count }.into());
         }
         Ok(count)
     }
@@ -60,6 +60,7 @@ impl<'a, T: Element> BinaryHeap<'a, T> {
 }
 
 // Puts what the supply has behind the row of `start` elements, while a place is free, and takes it in; answers how many.
+// A slice and a position in it come apart at once, here and below, so no struct holds both.
 #[tactic(auto, using(heap_model::proofs::Extending::fills), unfolding(heap_model::specs::Growth::extended_row))]
 fn extend_places<T: Element, S: Supply<T>>(places: &mut [T], start: usize, supply: &mut S) -> usize
     requires { start ≤ length places.old }

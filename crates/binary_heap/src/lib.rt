@@ -20,7 +20,7 @@ mod removal;
 
 const MOST_PLACES: usize = 1_048_576;
 
-// A priority queue on lent memory, which no call enlarges: its row is the first `len` places, the
+// A priority queue on lent, fixed memory, and so on no `Vec`: its row is the first `len` places, the
 // greatest element in front.
 #[derive(Drop)]
 pub struct BinaryHeap<'a, T> {

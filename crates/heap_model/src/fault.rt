@@ -20,6 +20,7 @@ pub enum HeapFault {
     ShortList,
 }
 
+// By hand, so that a clause can say which case a `?` makes.
 impl From<TryReserveErrorKind> for HeapFault {
     ghost from_gives = { λ fault r. r ≡ Row fault };
 

@@ -12,6 +12,7 @@ pub enum ElementFault {
     CutShort,
 }
 
+// By hand, so that a clause can say which case a `?` makes.
 impl From<ClauseFault> for ElementFault {
     ghost from_gives = { λ fault r. r ≡ OfClause fault };
 

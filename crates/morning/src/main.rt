@@ -43,6 +43,7 @@ enum ArrivalFault {
     Heap(HeapFault),
 }
 
+// By hand, so that a clause can say which case a `?` makes.
 impl From<ClauseFault> for ArrivalFault {
     ghost from_gives = { λ fault r. r ≡ OfClause fault };
 
@@ -51,6 +52,7 @@ impl From<ClauseFault> for ArrivalFault {
     }
 }
 
+// By hand, so that a clause can say which case a `?` makes.
 impl From<HeapFault> for ArrivalFault {
     ghost from_gives = { λ fault r. r ≡ OfHeap fault };
 

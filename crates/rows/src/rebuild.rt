@@ -4,7 +4,7 @@ ghost use Rattle.rows.specs.Rebuilds.{highest_bit, rebuilds, rebuilt, sift_ups, 
 use crate::sift::{sift_down, sift_up};
 use elements::element::Element;
 
-// By leading zeros as in the Rust, whose choices it has to share; `ilog2` would answer the same.
+// By leading zeros, as the Rust and `highest_bit` have it; `ilog2` would answer the same.
 fn log2_fast(x: usize) -> usize
     requires { 0 < x }
     ensures is { result ≡ highest_bit x }
@@ -49,7 +49,8 @@ fn sift_up_each<T: Element>(row: &mut [T], start: usize)
     }
 }
 
-// Makes a heap of a row whose first `start` elements are one, in the cheaper of two ways.
+// Makes a heap of a row whose first `start` elements are one, in the cheaper of two ways. The two are
+// parameters as in the Rust.
 pub fn rebuild_tail<T: Element>(row: &mut [T], start: usize)
     ensures { row.new ≡ tail_rebuilt T.ordering start row.old }
 {

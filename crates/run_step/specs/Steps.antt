@@ -121,12 +121,7 @@ module _ {X : Type 0} (ordering : X → X → Ordering) (codec : Codec X) where
     pub heaps : both r.heaps ≡ stepped ordering codec (length list) in_use aside a
     pub answer : told_of list r.answer ≡ answered ordering codec (length list) in_use aside a
 
-  -- so it was whatever the list
-  pub record Steps (in_use : InUse X) (aside : Held X) (a : Asked) (r : Stepped X) : Type 0 where
-    pub heaps : (room : ℕ) → both r.heaps ≡ stepped ordering codec room in_use aside a
-    pub answer : (list : List X) → told_of list r.answer ≡ answered ordering codec (length list) in_use aside a
-
-  -- so it was in place, whatever the list and the other heap, which stays
+  -- it was in place, whatever the list and the other heap, which stays
   pub record Acts (before after : InUse X) (a : Asked) (r : Result (Reply X) RecordFault) : Type 0 where
     pub heap : (room : ℕ) (o : Held X) → record { in_use = after; aside = o } ≡ stepped ordering codec room before o a
     pub answer : (list : List X) (o : Held X) → told_of list r ≡ answered ordering codec (length list) before o a

@@ -15,6 +15,7 @@ pub enum RecordFault {
     NoEdit,
 }
 
+// By hand, so that a clause can say which case a `?` makes.
 impl From<HeapFault> for RecordFault {
     ghost from_gives = { λ fault r. r ≡ OfHeap fault };
 
@@ -23,6 +24,7 @@ impl From<HeapFault> for RecordFault {
     }
 }
 
+// By hand, so that a clause can say which case a `?` makes.
 impl From<ElementFault> for RecordFault {
     ghost from_gives = { λ fault r. r ≡ OfElement fault };
 

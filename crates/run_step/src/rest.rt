@@ -101,6 +101,7 @@ fn copy_row<K: Kind>(heap: &BinaryHeap<'_, K>, list: &mut [K])
     ensures { list.new ≡ row_of heap.now }
 {
     'row: for (i, place) in list.iter_mut().enumerate() {
+        // `get` answers an option, though there is an element at every i.
         if let Some(x) = heap.get(i) {
             *place = *x;
         }

@@ -1,3 +1,4 @@
+-- One of the definitions to open is the logic's own, which an attribute cannot name.
 use Rattle.std.proofs.Common.{rules}
 use Rattle.std.proofs.lemmas.List.Elements.{All-from_recursion}
 use lib.Count.{count_leading_zeros}

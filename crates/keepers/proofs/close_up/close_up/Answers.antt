@@ -1,3 +1,4 @@
+-- The search alone stops at its limit: a turn is named with what the keeper answered.
 use Rattle.std.proofs.Common.{rules}
 use Rattle.keepers.proofs.Closing.{keeps, drops}
 use Rattle.keepers.proofs.close_up.close_up.Goals as goal

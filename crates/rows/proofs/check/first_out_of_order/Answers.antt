@@ -1,3 +1,4 @@
+-- What `find` ran is not found by the search alone.
 use Rattle.std.proofs.Common.{◌≡◌, ℕ, true, get_or, arith, rules}
 use Rattle.std.proofs.lemmas.Iterator.{first_from_Range}
 use Rattle.elements.specs.Orders.{exceeds}

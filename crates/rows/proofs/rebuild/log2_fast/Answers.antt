@@ -1,3 +1,4 @@
+-- The search stops at its limit, with this lemma named above the function too.
 use Rattle.std.proofs.Common.{arith}
 use Rattle.std.proofs.lemmas.Nat.{leading_top}
 use Rattle.rows.proofs.rebuild.log2_fast.Goals as goal

@@ -1,3 +1,4 @@
+-- The search does not take the invariant, which speaks of every function, at the one that is given.
 use Rattle.std.proofs.Common.{◌∙◌, sym, rules}
 use Rattle.rows.proofs.Sinks.{begins, ends, rests, turns}
 use Rattle.rows.proofs.sift.sink.Goals as goal
