@@ -162,6 +162,20 @@ mod tests {
     }
 
     #[test]
+    fn an_append_puts_the_longer_row_first(rt: HostRuntime) {
+        let mut places = [0u64; 5];
+        let mut others = [0u64; 3];
+        let mut heap = BinaryHeap::new(&mut places);
+        let mut other = BinaryHeap::new(&mut others);
+        assert!(rt; heap.extend(&mut Lent::new(&[9u64, 5])).is_ok());
+        assert!(rt; other.extend(&mut Lent::new(&[8u64, 7, 6])).is_ok());
+        assert!(rt; heap.append(&mut other).is_ok());
+        assert_eq!(rt; heap.len(), 5);
+        assert!(rt; other.is_empty());
+        assert!(rt; places == [9, 8, 6, 7, 5] && others == [8, 7, 6]);
+    }
+
+    #[test]
     fn a_short_list_is_not_written(rt: HostRuntime) {
         let mut places = [0u64; 3];
         let mut heap = BinaryHeap::new(&mut places);

@@ -1,3 +1,4 @@
+// A row is a tree by its positions, so single elements are read and written by index.
 ghost use Rattle.std.specs.Prelude.{◌≡◌, ◌/◌, ◌<◌, Bool, length};
 ghost use Rattle.rows.specs.Sifts.{greater_child, sift_up, sunk, sift_down, sift_to_leaf, sift_down_to_bottom};
 ghost use Rattle.rows.specs.Moves.{Computes};
