@@ -4,7 +4,7 @@
 #![tactic(auto)]
 
 ghost use Rattle.std.specs.Prelude.{◌≡◌, [], length, IfOk};
-ghost use Rattle.elements.specs.Clauses.{refuses_clause, by_rank};
+ghost use Rattle.elements.specs.Clauses.{made, refuses_clause, by_rank};
 ghost use Rattle.elements.specs.Refusals.{told};
 ghost use Rattle.elements.specs.Refusals.Answer.{accepted};
 ghost use Rattle.heap_model.specs.Calls.{front};
@@ -25,7 +25,7 @@ use supplies::lent::Lent;
 // Clauses of a higher rank are withdrawn at noon.
 const NOON_RANK: u16 = 7;
 
-// rank, number, discount in per mille: taken apart at once, since only `Clause::new` makes a clause
+// rank, number, discount in per mille: a triple, since only `Clause::new` makes a clause
 const ARRIVALS: [(u16, u32, u16); 7] = [
     (3, 101, 50),
     (7, 102, 120),
@@ -82,15 +82,13 @@ impl fmt::Display for ArrivalFault {
     }
 }
 
-// Takes in a clause that could be made.
-fn arrive(
-    heap: &mut BinaryHeap<'_, Clause>,
-    made: Result<Clause, ClauseFault>,
-) -> Result<(), ArrivalFault>
-    ensures answer { told refuses_arrival result ≡ arrival_answer (told refuses_clause made) (held heap.old) }
-    ensures heap { held heap.new ≡ arrived (told refuses_clause made) (held heap.old) }
+// Takes in a clause of this rank, number and discount.
+fn arrive(heap: &mut BinaryHeap<'_, Clause>, arrival: (u16, u32, u16)) -> Result<(), ArrivalFault>
+    ensures answer { told refuses_arrival result ≡ arrival_answer (made arrival.0 arrival.1 arrival.2) (held heap.old) }
+    ensures heap { held heap.new ≡ arrived (made arrival.0 arrival.1 arrival.2) (held heap.old) }
 {
-    heap.push(made?)?;
+    let (rank, number, discount) = arrival;
+    heap.push(Clause::new(rank, number, discount)?)?;
     Ok(())
 }
 
@@ -122,12 +120,13 @@ fn show_front(
 fn hand_out(rt: &HostRuntime, heap: &mut BinaryHeap<'_, Clause>) -> io::Result<usize>
     ensures { IfOk result (λ count. (count ≡ length (held heap.old).row) × ((held heap.new).row ≡ [])) }
 {
-    let count = heap.len();
+    let mut count = 0;
     'out: while let Some(clause) = heap.pop() {
         let rank = clause.rank();
         let number = clause.number();
         let discount = clause.discount();
         println!(rt; "handed out: clause {number} of rank {rank}, {discount} per mille")?;
+        count += 1;
     }
     Ok(count)
 }
@@ -174,8 +173,9 @@ fn main(rt: HostRuntime) -> io::Result<()> {
         }
     }
     let mut shown = show_front(&rt, &heap, None)?;
-    for (rank, number, discount) in ARRIVALS {
-        match arrive(&mut heap, Clause::new(rank, number, discount)) {
+    for arrival in ARRIVALS {
+        let (rank, number, _) = arrival;
+        match arrive(&mut heap, arrival) {
             Ok(()) => println!(rt; "clause {number} of rank {rank}: accepted")?,
             Err(fault) => println!(rt; "clause {number} of rank {rank}: {fault}")?,
         }
