@@ -2,6 +2,8 @@
 // ranks, nested kinds, refusals that change nothing.
 #![tactic(auto)]
 
+ghost use Rattle.std.specs.Prelude.{replicate};
+
 #[cfg(test)]
 mod tests {
     use binary_heap::BinaryHeap;
@@ -18,6 +20,27 @@ mod tests {
 
     fn refusal_of<A: Drop, F: Fault + Drop>(answer: Result<A, F>) -> Option<Refusal> {
         answer.err().map(|fault| fault.refusal())
+    }
+
+    // Sevens, and how often one was asked for.
+    #[derive(Drop)]
+    struct Counted {
+        left: usize,
+        asked: usize,
+    }
+
+    impl Supply<u64> for Counted {
+        ghost rest = { λ s. replicate s.left 7 };
+
+        fn more(&self) -> bool {
+            self.left > 0
+        }
+
+        fn next(&mut self) -> Option<u64> {
+            self.asked = self.asked.wrapping_add(1);
+            self.left = self.left.checked_sub(1)?;
+            Some(7)
+        }
     }
 
     #[test]
@@ -147,6 +170,18 @@ mod tests {
         assert_eq!(rt; refusal, Some(Refusal::by_with(2, 2)));
         assert_eq!(rt; supply.next(), Some(3));
         assert!(rt; places == [2, 1]);
+    }
+
+    #[test]
+    fn an_extend_asks_for_no_more_than_there_is(rt: HostRuntime) {
+        let mut places = [0u64; 3];
+        let mut heap = BinaryHeap::new(&mut places);
+        let mut supply = Counted { left: 2, asked: 0 };
+        assert!(rt; heap.extend(&mut supply).is_ok());
+        assert_eq!(rt; supply.asked, 2);
+        let mut supply = Counted { left: 2, asked: 0 };
+        assert!(rt; heap.extend(&mut supply).is_err());
+        assert_eq!(rt; supply.asked, 1);
     }
 
     #[test]

@@ -11,6 +11,10 @@ pub fn fill<T: Copy, S: Supply<T>>(places: &mut [T], supply: &mut S) -> usize
     ensures within { result ≤ length places.old }
 {
     'filling: for (i, place) in places.iter_mut().enumerate() {
+        // A caller's own supply is not asked for more than it has.
+        if !supply.more() {
+            return i;
+        }
         let Some(x) = supply.next() else {
             return i;
         };
