@@ -21,7 +21,5 @@ fn exceeds_parent<T: Element>(list: &[T], i: usize) -> bool
     requires { (0 < i) × (i < length list.now) }
     ensures { (d : T) → result ≡ exceeds T.ordering (slice_index_or list.now i d) (slice_index_or list.now (parent i) d) }
 {
-    let x = list[i];
-    let above = list[(i - 1) / 2];
-    exceeds(&x, &above)
+    exceeds(&list[i], &list[(i - 1) / 2])
 }
