@@ -17,6 +17,7 @@ pub fn first_out_of_order<T: Element>(list: &[T]) -> Option<usize>
     (1..list.len()).find(|&i| exceeds_parent(list, i))
 }
 
+// By reference: of a copied pair both members would be compared, though the first decide.
 fn exceeds_parent<T: Element>(list: &[T], i: usize) -> bool
     requires { (0 < i) × (i < length list.now) }
     ensures { (d : T) → result ≡ exceeds T.ordering (slice_index_or list.now i d) (slice_index_or list.now (parent i) d) }
